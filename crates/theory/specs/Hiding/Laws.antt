@@ -1,2 +1,10 @@
--- Edition 0's rule is a rule, for records of any sort.
+-- Edition 0's rule is a rule, for records of any sort. Assumes nothing.
+use mathlib.Core.Path.{_≡_, _∙_}
 use Prim.Native.Nat.{ℕ}
+use lib.Dec.{eqb}
+use borrow.Author.Tests.{eqb-true, eq-eqb}
+use Rattle.theory.specs.Hiding.{Rule, sameKey}
+
+pub sameKey-rule : {A : Type 0} (Ok : A → Type 0) (key : A → ℕ) → Rule Ok key (sameKey key)
+sameKey-rule Ok key =
+    record { same-key = λ a b e. eq-eqb _ _ e; through = λ a b c p q r x y. eq-eqb _ _ (eqb-true _ _ x ∙ eqb-true _ _ y) }
