@@ -7,4 +7,7 @@ use Rattle.theory.specs.Hiding.{Rule, sameKey}
 
 pub sameKey-rule : {A : Type 0} (Ok : A → Type 0) (key : A → ℕ) → Rule Ok key (sameKey key)
 sameKey-rule Ok key =
-    record { same-key = λ a b e. eq-eqb _ _ e; through = λ a b c p q r x y. eq-eqb _ _ (eqb-true _ _ x ∙ eqb-true _ _ y) }
+    record {
+      same-key = λ a b e. eq-eqb (key a) (key b) e;
+      through = λ a b c p q r x y. eq-eqb (key a) (key c) (eqb-true (key a) (key b) x ∙ eqb-true (key b) (key c) y);
+    }
