@@ -1,0 +1,2 @@
+-- What each refusal tells its caller.
+pub mod Table
