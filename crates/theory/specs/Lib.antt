@@ -1,7 +1,8 @@
 -- What a tray means, on lists of records: hiding, merging, folding, the sorted view, and packing into segments. No code, no bytes.
 -- lists: strictly rising ones, and "same members, same list"
 pub mod Rising
--- records: which newer record hides which older one
+-- records, and which newer one hides which older one
+pub mod Records
 pub mod Hiding
 -- runs: one over another, all merged, neighbours folded
 pub mod Merge

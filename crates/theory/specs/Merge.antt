@@ -1,7 +1,9 @@
 -- Runs of records merged (document 01, "The sorted view" and "Folding"): one over another, all of a tray, neighbours folded, chains of folds.
 -- A tray is a list of runs, newest first; a run is a list of records. Assumes nothing.
+pub mod Hidden
 pub mod Laws
 pub mod Chains
+pub mod Nothing
 mod Cases
 use Prim.Native.Nat.{ℕ, suc, _+_, _-_, _≤_, _<_}
 use mathlib.Core.Bool.{Bool, not}

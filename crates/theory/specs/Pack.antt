@@ -1,7 +1,9 @@
 -- Versions of a key kept together, and such groups packed into segments (document 01, "The index": our builder puts a key's versions
 -- into the current segment if all fit and else opens a new one). Assumes nothing.
-pub mod Laws
 mod Cases
+pub mod Groups
+pub mod Laws
+mod Lists
 use Prim.Native.Nat.{ℕ, _+_, _≤_, _<_}
 use mathlib.Core.Path.{_≡_}
 use mathlib.Core.Bool.{cond}

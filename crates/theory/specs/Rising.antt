@@ -1,6 +1,7 @@
 -- Lists that rise strictly by a number, and the list functions that everything else is made of. Assumes nothing.
 -- The laws are in `Rising/Laws.antt`; the one that the rest stands on is `same-members`.
 pub mod Laws
+pub mod More
 use Prim.Native.Nat.{ℕ, _<_}
 use mathlib.Core.Bool.{Bool, true, false, cond, _||_}
 use mathlib.Core.List.{List, [], _∷_, List·Memᴰ}

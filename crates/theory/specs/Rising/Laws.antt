@@ -1,5 +1,5 @@
 -- Laws of rising lists. Only this file looks inside `any`, `keep`, `insert` and `insertAll`.
---     split                             both cases of a test
+--     split, split-at, cases, clash     both cases of a test; never: two constructors; order: the three cases of two numbers
 --     any-some, some-any, none-any      a test that some member passes, or none
 --     mem-keep, keep-mem, rises-keep    what is kept
 --     mem-insert, insert-mem, rises-insert          one member put in
@@ -34,9 +34,21 @@ pub cases {ℓ} : {Q : Type ℓ} (b : Bool) → (b ≡ true → Q) → (b ≡ fa
 cases true t f = t refl
 cases false t f = f refl
 
+-- two constructors are never equal: `never (cc)`
+pub never {ℓ} : {Q : Type ℓ} → _≡_ {A = ℕ} 0 1 → Q
+never z = absurd (omega arith)
+
 -- a test is not both
 pub clash {ℓ} : {Q : Type ℓ} {b : Bool} → b ≡ true → b ≡ false → Q
-clash p q = let z : _≡_ {A = ℕ} 0 1 = cc in absurd (omega arith)
+clash p q = never (cc)
+
+-- which of two numbers is the lower one
+pub order {ℓ} : {Q : Type ℓ} (a b : ℕ) → (a < b → Q) → (a ≡ b → Q) → (b < a → Q) → Q
+order a b low same-number high =
+    cases (ltb a b) (λ t. low (ltb-true _ _ t)) (λ f. cases (ltb b a) (λ t. high (ltb-true _ _ t)) (λ g. same-number (level (ltb-false _ _ f) (ltb-false _ _ g))))
+  where
+    level : b ≤ a → a ≤ b → a ≡ b
+    level p q = omega arith
 
 module _ {A : Type 0} where
   pub all-tail : {P : A → Type 0} {a : A} {xs : List A} → All P (a ∷ xs) → All P xs
