@@ -1,7 +1,11 @@
 -- How far each run has been read, and what is then left of the view: the ground of building, checking and walking an index.
 -- Places are a function: p i is how many records of run i have been read. Assumes nothing.
+pub mod Passed
+pub mod Rest
 pub mod Laws
+pub mod Heads
 pub mod Steps
+mod Cases
 use Prim.Native.Nat.{ℕ, suc}
 use mathlib.Core.Path.{_≡_}
 use mathlib.Core.Bool.{cond}
@@ -25,6 +29,11 @@ module _ {A : Type 0} where
   unfoldable pub passed : (ℕ → ℕ) → List (Entry A) → ℕ → ℕ
   passed p [] = p
   passed p (e ∷ es) = passed (bump p (e .run)) es
+
+  -- the entries of run i
+  unfoldable pub count : ℕ → List (Entry A) → ℕ
+  count i [] = 0
+  count i (e ∷ es) = cond (eqb (e .run) i) (suc (count i es)) (count i es)
 
   module _ (t : List (List A)) where
     -- e is the next record of its run

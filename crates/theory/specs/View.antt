@@ -1,6 +1,9 @@
 -- The sorted view of a tray (document 01, "The sorted view"): all records of all runs by rising key; equal keys by rising run number,
 -- so newest first. A record in the view stands with its run and its place in the run. Assumes nothing.
+pub mod Lists
+pub mod Entries
 pub mod Laws
+pub mod Old
 pub mod Visible
 mod Cases
 use Prim.Native.Nat.{ℕ, zero, suc, _+_, _*_, _<_}
