@@ -1,0 +1,54 @@
+-- `number::big2` meets its contract: each byte is below 256, so no step wraps; the sum is `be 2` written out. Assumes nothing.
+use native.Mathlib.Omega.{arith}
+use Rattle.number.specs.Big.{be}
+use Rattle.number.proofs.Known.{eight}
+use borrow.Author.Needs.{needs}
+use Rattle.number.proofs.big2.Statement.{statement}
+use Rattle.number.proofs.big2.Tie as tie
+
+shared-slice-read-wide16 : tie.Need-shared-slice-read-wide16
+shared-slice-read-wide16 c = search needs
+
+wide16-requires : tie.Need-wide16-requires
+wide16-requires c κs = search needs
+
+mul-result : tie.Need-mul-result
+mul-result c =
+    let at-start = c .before .before in
+    let near = eight (at-start .before .args .s .now) (at-start .before .args .at) (at-start .shared-slice-known .given) in
+    omega arith
+
+add-wide16 : tie.Need-add-wide16
+add-wide16 c = search needs
+
+shared-slice-read-wide16-2 : tie.Need-shared-slice-read-wide16-2
+shared-slice-read-wide16-2 c = search needs
+
+wide16-requires-2 : tie.Need-wide16-requires-2
+wide16-requires-2 c κs = search needs
+
+add-result : tie.Need-add-result
+add-result c =
+    let at-start = c .before .before .before .before in
+    let near = eight (at-start .before .args .s .now) (at-start .before .args .at) (at-start .shared-slice-known .given) in
+    omega arith
+
+returns : tie.Need-returns
+unfolding be
+returns c =
+    let at-start = c .before .before .before .before in
+    let near = eight (at-start .before .args .s .now) (at-start .before .args .at) (at-start .shared-slice-known .given) in
+    omega arith
+
+pub big2-spec : {M : Type 1} → statement M
+big2-spec =
+    tie.close
+    (tie.spec
+    shared-slice-read-wide16
+    wide16-requires
+    mul-result
+    add-wide16
+    shared-slice-read-wide16-2
+    wide16-requires-2
+    add-result
+    returns)

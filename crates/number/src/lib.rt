@@ -1,0 +1,101 @@
+// Big-endian numbers in byte slices: the leaves that everything above reads and writes bytes with.
+ghost use mathlib.Core.Path.{_≡_};
+ghost use Prim.Native.Nat.{_+_, _≤_};
+ghost use lib.ListN.{length};
+ghost use Rattle.number.specs.Big.{be, bytesOf, put};
+
+// The byte, as 16 bits.
+pub fn wide16(x: u8) -> u16
+    ensures { λ r. ⌜ r ≡ x ⌝ }
+{
+    x as u16
+}
+
+// The byte, as 32 bits.
+pub fn wide32(x: u8) -> u32
+    ensures { λ r. ⌜ r ≡ x ⌝ }
+{
+    x as u32
+}
+
+// The byte, as 64 bits.
+pub fn wide64(x: u8) -> u64
+    ensures { λ r. ⌜ r ≡ x ⌝ }
+{
+    x as u64
+}
+
+// The byte, as a place or a length.
+pub fn wide_size(x: u8) -> usize
+    ensures { λ r. ⌜ r ≡ x ⌝ }
+{
+    x as usize
+}
+
+// The number that 2 bytes from a place on spell.
+pub fn big2(s: &[u8], at: usize) -> u16
+    requires { ⌜ at + 2 ≤ length (now s) ⌝ }
+    ensures { λ r. ⌜ r ≡ be 2 (now (s .entry)) at ⌝ }
+{
+    wide16(s[at]) * 256 + wide16(s[at + 1])
+}
+
+// The number that 4 bytes from a place on spell.
+pub fn big4(s: &[u8], at: usize) -> u32
+    requires { ⌜ at + 4 ≤ length (now s) ⌝ }
+    ensures { λ r. ⌜ r ≡ be 4 (now (s .entry)) at ⌝ }
+{
+    ((wide32(s[at]) * 256 + wide32(s[at + 1])) * 256 + wide32(s[at + 2])) * 256 + wide32(s[at + 3])
+}
+
+// The number that 8 bytes from a place on spell: a key, as the order needs it.
+pub fn big8(s: &[u8], at: usize) -> u64
+    requires { ⌜ at + 8 ≤ length (now s) ⌝ }
+    ensures { λ r. ⌜ r ≡ be 8 (now (s .entry)) at ⌝ }
+{
+    ((((((wide64(s[at]) * 256 + wide64(s[at + 1])) * 256 + wide64(s[at + 2])) * 256
+        + wide64(s[at + 3]))
+        * 256
+        + wide64(s[at + 4]))
+        * 256
+        + wide64(s[at + 5]))
+        * 256
+        + wide64(s[at + 6]))
+        * 256
+        + wide64(s[at + 7])
+}
+
+// Writes the 2 bytes of a number from a place on, and nothing else.
+pub fn put2(out: &mut [u8], at: usize, v: u16)
+    requires { ⌜ at + 2 ≤ length (now out) ⌝ }
+    ensures { λ _. ⌜ now (out .exit) ≡ put (now (out .entry)) at (bytesOf 2 v) ⌝ }
+{
+    out[at] = (v / 256) as u8;
+    out[at + 1] = (v % 256) as u8;
+}
+
+// Writes the 4 bytes of a number from a place on, and nothing else.
+pub fn put4(out: &mut [u8], at: usize, v: u32)
+    requires { ⌜ at + 4 ≤ length (now out) ⌝ }
+    ensures { λ _. ⌜ now (out .exit) ≡ put (now (out .entry)) at (bytesOf 4 v) ⌝ }
+{
+    out[at] = (v / 0x1000000) as u8;
+    out[at + 1] = (v / 0x10000 % 256) as u8;
+    out[at + 2] = (v / 0x100 % 256) as u8;
+    out[at + 3] = (v % 256) as u8;
+}
+
+// Writes the 8 bytes of a number from a place on, and nothing else.
+pub fn put8(out: &mut [u8], at: usize, v: u64)
+    requires { ⌜ at + 8 ≤ length (now out) ⌝ }
+    ensures { λ _. ⌜ now (out .exit) ≡ put (now (out .entry)) at (bytesOf 8 v) ⌝ }
+{
+    out[at] = (v / 0x100000000000000) as u8;
+    out[at + 1] = (v / 0x1000000000000 % 256) as u8;
+    out[at + 2] = (v / 0x10000000000 % 256) as u8;
+    out[at + 3] = (v / 0x100000000 % 256) as u8;
+    out[at + 4] = (v / 0x1000000 % 256) as u8;
+    out[at + 5] = (v / 0x10000 % 256) as u8;
+    out[at + 6] = (v / 0x100 % 256) as u8;
+    out[at + 7] = (v % 256) as u8;
+}

@@ -1,0 +1,25 @@
+-- `tray::frame::tray_frame` meets its contract: the header decides whether the counts are read. Assumes nothing.
+use Rattle.tray.specs.Frame.Code.{header-is, header-wrong}
+use mathlib.Core.Path.{sym, _∙_}
+use borrow.Author.Needs.{needs}
+use Rattle.tray.proofs.frame.tray_frame.Statement.{statement}
+use Rattle.tray.proofs.frame.tray_frame.Tie as tie
+
+header-fits-requires : tie.Need-header-fits-requires
+header-fits-requires c κs = search needs
+
+counted-requires : tie.Need-counted-requires
+counted-requires c κs = header-is _ (sym (c .before .header-fits .ensures) ∙ c .if1 .taken)
+
+returns : tie.Need-returns
+returns c = search needs
+
+no-frame-requires : tie.Need-no-frame-requires
+no-frame-requires c κs = search needs
+
+returns-2 : tie.Need-returns-2
+returns-2 c = header-wrong _ (sym (c .before .before .header-fits .ensures) ∙ c .before .if1 .left) (c .no-frame .ensures)
+
+pub tray-frame-spec : {M : Type 1} → statement M
+tray-frame-spec =
+    tie.close (tie.spec header-fits-requires counted-requires returns no-frame-requires returns-2)

@@ -1,0 +1,113 @@
+-- What the code of a run's check needs of the definitions: each law is a way out of a function, or a turn of its loop.
+--     no-value-high, no-value-low        sixteen zero bytes, told by their halves
+--     kind-live, kind-gone, kind-other   a record's kind, told by its byte
+--     Last, last-none, last-more         the key before a place
+--     key-fine, key-bad                  a key, told by the last one
+--     run-kind, run-key, run-next, last-next    a turn of the loop over a run
+-- Assumes nothing.
+use mathlib.Core.Path.{_≡_, refl, sym, ap, _∙_}
+use Prim.Native.Nat.{ℕ, zero, suc, _+_, _-_, _*_, _≤_, _<_}
+use native.Mathlib.Omega.{arith}
+use native.Mathlib.Numerals.{add-one}
+use mathlib.Core.Bool.{Bool, true, false, not, _||_, _&&_}
+use mathlib.Core.List.{List}
+use lib.ListN.{getD}
+use lib.Dec.{leb, ltb, eqb}
+use borrow.Author.Tests.{le-leb, lt-leb, ltb-true, ltb-false, le-ltb, lt-ltb, eqb-true, eqb-false, ne-eqb, not-true, not-false}
+use Rattle.number.specs.Big.{be}
+use Rattle.number.specs.Big.Laws.{be-add}
+use Rattle.theory.specs.Rising.Laws.{cases, clash}
+use Rattle.tray.specs.declared.run.RunAnswer.the-variants.{WrongKind, WrongKey}
+use Rattle.tray.specs.Run.{recordFrom, recordAt, kindWrong, keyWrong, place, judgeFrom}
+use Rattle.tray.specs.Run.Laws.{judge-kind, judge-key, judge-next}
+
+-- sixteen bytes as two numbers of eight
+halves : (s : List ℕ) (p : ℕ) → be 16 s p ≡ be 8 s p * 18446744073709551616 + be 8 s (p + 8)
+halves s p = be-add 8 8 s p
+
+module _ (s : List ℕ) (p : ℕ) where
+  pub no-value-high : (be 8 s p ≡ 0 → ⊥) → false ≡ eqb (be 16 s p) 0
+  no-value-high h = let e = halves s p in sym (ne-eqb (be 16 s p) 0 (λ z. h (omega arith)))
+
+  pub no-value-low : be 8 s p ≡ 0 → eqb (be 8 s (p + 8)) 0 ≡ eqb (be 16 s p) 0
+  no-value-low h = let e = halves s p in let z : be 8 s (p + 8) ≡ be 16 s p = omega arith in ap (λ n. eqb n 0) z
+
+  pub kind-live : getD s (p + 8) 0 ≡ 0 → true ≡ not (kindWrong (recordFrom s p))
+  unfolding kindWrong recordFrom
+  kind-live h = rw h
+
+  pub kind-gone : {b : Bool} → getD s (p + 8) 0 ≡ 1 → b ≡ eqb (be 16 s (p + 9)) 0 → b ≡ not (kindWrong (recordFrom s p))
+  unfolding kindWrong recordFrom
+  kind-gone h e = rw h (e ∙ zero-or (be 16 s (p + 9)))
+    where
+      zero-or : (v : ℕ) → eqb v 0 ≡ not (ltb 0 v)
+      zero-or v = cases (eqb v 0) (λ t. let z : v ≡ 0 = eqb-true v 0 t in t ∙ ap not (sym (le-ltb 0 v (omega arith)))) (λ f. f ∙ ap not (sym (lt-ltb 0 v (above (eqb-false v 0 f)))))
+        where
+          above : (v ≡ 0 → ⊥) → 0 < v
+          above n = omega arith
+
+  pub kind-other : (getD s (p + 8) 0 ≡ 0 → ⊥) → (getD s (p + 8) 0 ≡ 1 → ⊥) → false ≡ not (kindWrong (recordFrom s p))
+  unfolding kindWrong recordFrom
+  kind-other h k = let l : 1 < getD s (p + 8) 0 = omega arith in rw (lt-ltb 1 (getD s (p + 8) 0) l)
+
+module _ (run : List ℕ) where
+  -- the key before place p, if p is not the first
+  abbrev pub Last : ℕ → ℕ → Type 0
+  Last p last = (q : ℕ) → p ≡ suc q → last ≡ recordAt run q .key
+
+  pub last-none : (last : ℕ) → Last 0 last
+  last-none last q e = absurd (omega arith)
+
+  pub last-more : (p : ℕ) {key : ℕ} → key ≡ recordAt run p .key → Last (p + 1) key
+  last-more p {key} h q e = let z : p ≡ q = omega arith in h ∙ ap (λ i. recordAt run i .key) z
+
+  pub key-fine : (p : ℕ) {last key : ℕ} → key ≡ recordAt run p .key → Last p last → (ltb last key || eqb p 0) ≡ true → keyWrong run p ≡ false
+  unfolding keyWrong
+  key-fine zero h l t = refl
+  key-fine (suc q) {last} {key} h l t =
+      let e : last ≡ recordAt run q .key = l q refl in
+      let k : last < key = ltb-true last key (plain (ltb last key) t) in
+      lt-leb (recordAt run (suc q) .key) (recordAt run q .key) (omega arith)
+    where
+      plain : (b : Bool) → (b || eqb (suc q) 0) ≡ true → b ≡ true
+      plain true e = refl
+      plain false e = clash e (ne-eqb (suc q) 0 (λ z. omega arith))
+
+  pub key-bad : (p : ℕ) {last key : ℕ} → key ≡ recordAt run p .key → Last p last → (ltb last key || eqb p 0) ≡ false → keyWrong run p ≡ true
+  unfolding keyWrong
+  key-bad zero {last} {key} h l t = out (ltb last key) t
+    where
+      out : (b : Bool) → (b || eqb 0 0) ≡ false → false ≡ true
+      out true e = sym e
+      out false e = sym e
+  key-bad (suc q) {last} {key} h l t =
+      let e : last ≡ recordAt run q .key = l q refl in
+      let k : key ≤ last = ltb-false last key (plain (ltb last key) t) in
+      le-leb (recordAt run (suc q) .key) (recordAt run q .key) (omega arith)
+    where
+      plain : (b : Bool) → (b || eqb (suc q) 0) ≡ false → b ≡ false
+      plain true e = e
+      plain false e = refl
+
+  -- the loop stands at place p, which starts at byte `at`; kr and yr are what the two tests answered
+  module _ {n p at : ℕ} {kr : Bool} (l : p < n) (stands : at ≡ 25 * p) (told : kr ≡ not (kindWrong (recordFrom run at))) where
+    kind-is : kr ≡ not (kindWrong (recordAt run p))
+    kind-is = told ∙ ap (λ (a : ℕ). not (kindWrong (recordFrom run a))) stands
+
+    pub run-kind : kr ≡ false → judgeFrom (n - p) run p ≡ WrongKind (place p)
+    run-kind e = judge-kind run n p l (not-false _ (sym kind-is ∙ e))
+
+    module _ {last key : ℕ} {yr : Bool} (right : kr ≡ true) (read : key ≡ be 8 run at) (before : Last p last) (told-key : yr ≡ (ltb last key || eqb p 0)) where
+      -- the key that was read is the place's
+      pub key-is : key ≡ recordAt run p .key
+      unfolding recordFrom
+      key-is = read ∙ ap (be 8 run) stands
+
+      pub run-key : yr ≡ false → judgeFrom (n - p) run p ≡ WrongKey (place p)
+      run-key e = judge-key run n p l (not-true _ (sym kind-is ∙ right)) (key-bad p key-is before (sym told-key ∙ e))
+
+      pub run-next : yr ≡ true → judgeFrom (n - p) run p ≡ judgeFrom (n - (p + 1)) run (p + 1)
+      run-next e = judge-next run n p l (not-true _ (sym kind-is ∙ right)) (key-fine p key-is before (sym told-key ∙ e))
+
+      pub last-next : Last (p + 1) key
+      last-next = last-more p key-is
