@@ -1,5 +1,6 @@
 -- Check tray's answer for every input (document 01, "Refusals by number": 1, then 3/2 in tray order), and what a sound tray is.
 -- Assumes nothing.
+mod Cases
 pub mod Code
 pub mod Laws
 pub mod Theorems

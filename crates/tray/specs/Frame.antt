@@ -60,14 +60,23 @@ framed t = headerFits t && (countsFit t (runCount t) && eqb (length t) (startOf 
 -- what the frame that the library computes says of the tray
 pub record Framing (t : List ℕ) (f : TrayFrame) : Type 0 where
   pub fits : f .fits ≡ framed t
+  pub room-counts : length (f .counts) ≡ 63
+  pub room-starts : length (f .starts) ≡ 64
   pub runs : framed t ≡ true → f .runs ≡ runCount t
   pub counts : framed t ≡ true → (r : ℕ) → r < runCount t → getD (f .counts) r 0 ≡ countOf t r
   pub starts : framed t ≡ true → (r : ℕ) → r ≤ runCount t → getD (f .starts) r 0 ≡ startOf t r
 
--- the same where it fits, as the functions below a call ask for it
-pub record Opened (t : List ℕ) (f : TrayFrame) : Type 0 where
+-- where the runs start, as the functions below a call ask for it
+pub record Starts (t starts : List ℕ) : Type 0 where
   pub frame : Framed t
+  pub few : runCount t ≤ 63
+  pub room : length starts ≡ 64
+  pub starts-are : (r : ℕ) → r ≤ runCount t → getD starts r 0 ≡ startOf t r
+
+-- a frame that fits, the same way
+pub record Opened (t : List ℕ) (f : TrayFrame) : Type 0 where
   pub runs : f .runs ≡ runCount t
   pub few : f .runs ≤ 63
-  pub counts : (r : ℕ) → r < f .runs → getD (f .counts) r 0 ≡ countOf t r
-  pub starts : (r : ℕ) → r ≤ f .runs → getD (f .starts) r 0 ≡ startOf t r
+  pub room : length (f .counts) ≡ 63
+  pub counts : (r : ℕ) → r < runCount t → getD (f .counts) r 0 ≡ countOf t r
+  pub at : Starts t (f .starts)

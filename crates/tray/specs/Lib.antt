@@ -7,3 +7,5 @@ pub mod Run
 pub mod Check
 -- the runs that a tray means, and the bytes of a list of runs
 pub mod Meaning
+-- a tray for worked cases
+pub mod Sample

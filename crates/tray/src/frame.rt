@@ -3,11 +3,10 @@ use crate::RunNo;
 use number::big2;
 use number::wide_size;
 ghost use mathlib.Core.Path.{_≡_};
-ghost use mathlib.Core.Bool.{false};
 ghost use Prim.Native.Nat.{_+_, _*_, _≤_};
 ghost use lib.ListN.{length};
 ghost use Rattle.tray.specs.Frame.{countOf, headerFits, Framing};
-ghost use Rattle.tray.specs.Frame.Code.{Header};
+ghost use Rattle.tray.specs.Frame.Code.{Header, NoFrame};
 
 // What the frame says. Where it does not fit, the other fields mean nothing.
 pub struct TrayFrame {
@@ -63,7 +62,7 @@ fn header_fits(t: &[u8]) -> bool
 
 // The frame of what is no tray.
 fn no_frame() -> TrayFrame
-    ensures { λ f. ⌜ f .fits ≡ false ⌝ }
+    ensures { λ f. ⌜ NoFrame f ⌝ }
 {
     TrayFrame {
         fits: false,

@@ -1,5 +1,6 @@
 // The records of one run. The run is handed on as its own stretch from the middle of the tray, and `at` is where a record starts in it.
 use crate::Place;
+use crate::frame::size16;
 use number::big8;
 ghost use mathlib.Core.Path.{_≡_};
 ghost use mathlib.Core.Bool.{not, _||_};
@@ -7,7 +8,7 @@ ghost use Prim.Native.Nat.{_+_, _*_, _≤_, _<_};
 ghost use lib.ListN.{length};
 ghost use lib.Dec.{eqb, ltb};
 ghost use Rattle.number.specs.Big.{be};
-ghost use Rattle.tray.specs.Run.{recordFrom, kindWrong, judgeRun};
+ghost use Rattle.tray.specs.Run.{recordFrom, recordAt, kindWrong, judgeRun};
 
 // What judging a run finds: nothing wrong, or the first wrong record's place.
 pub enum RunAnswer {
@@ -16,6 +17,24 @@ pub enum RunAnswer {
     WrongKind(Place),
     // Its key is not above the one before it.
     WrongKey(Place),
+}
+
+// The key of the record at a place.
+pub fn key_at(run: &[u8], p: Place) -> u64
+    requires { ⌜ 25 * p .0 + 25 ≤ length (now run) ⌝ }
+    ensures { λ k. ⌜ k ≡ recordAt (now (run .entry)) (p .0) .key ⌝ }
+{
+    let i = p.0;
+    big8(run, 25 * size16(i))
+}
+
+// The kind of the record at a place.
+pub fn kind_at(run: &[u8], p: Place) -> u8
+    requires { ⌜ 25 * p .0 + 25 ≤ length (now run) ⌝ }
+    ensures { λ k. ⌜ k ≡ recordAt (now (run .entry)) (p .0) .kind ⌝ }
+{
+    let i = p.0;
+    run[25 * size16(i) + 8]
 }
 
 // Whether 16 bytes are all zero.

@@ -15,12 +15,18 @@ use lib.Dec.{leb, eqb}
 use borrow.Author.Tests.{leb-true, le-leb, lt-leb, eqb-true, eqb-false, eq-eqb, ne-eqb}
 use Rattle.theory.specs.Rising.Laws.{cases, clash}
 use Rattle.tray.specs.declared.frame.TrayFrame.{TrayFrame}
-use Rattle.tray.specs.Frame.{runCount, countOf, recordsBefore, startOf, headerFits, countsFit, framed, Framing, Opened, runBytes}
+use Rattle.tray.specs.Frame.{runCount, countOf, recordsBefore, startOf, headerFits, countsFit, framed, Framing, Starts, Opened, runBytes}
 use Rattle.tray.specs.Frame.Laws.{framed-fits, length-run, startOf-le, startOf-within, and-true, and-left, and-right, countsFit-not, startOf-zero, startOf-next, upto}
 
 -- equality may be tested either way round
 eqb-turned : (a b : ℕ) → eqb a b ≡ eqb b a
 eqb-turned a b = cases (eqb b a) (λ y. eq-eqb a b (sym (eqb-true b a y)) ∙ sym y) (λ n. ne-eqb a b (λ e. eqb-false b a n (sym e)) ∙ sym n)
+
+-- a frame that does not fit
+pub record NoFrame (f : TrayFrame) : Type 0 where
+  pub none : f .fits ≡ false
+  pub room-counts : length (f .counts) ≡ 63
+  pub room-starts : length (f .starts) ≡ 64
 
 module _ (t : List ℕ) where
   pub header-short : length t < 4 + 2 * getD t 0 0 → false ≡ headerFits t
@@ -53,9 +59,10 @@ module _ (t : List ℕ) where
           header-3 zero-2 = sym (rest-is ∙ rw (eq-eqb (getD t 1 0) 0 zero-1, eq-eqb (getD t 2 0) 0 zero-2))
 
   -- where the frame does not fit, nothing else is said
-  pub no-framing : {f : TrayFrame} → f .fits ≡ framed t → f .fits ≡ false → Framing t f
-  no-framing e n =
-      record { fits = e; runs = λ y. clash (e ∙ y) n; counts = λ y. clash (e ∙ y) n; starts = λ y. clash (e ∙ y) n }
+  pub no-framing : {f : TrayFrame} → f .fits ≡ framed t → NoFrame f → Framing t f
+  no-framing e f =
+      let n = f .none in
+      record { room-counts = f .room-counts; room-starts = f .room-starts; fits = e; runs = λ y. clash (e ∙ y) n; counts = λ y. clash (e ∙ y) n; starts = λ y. clash (e ∙ y) n }
 
   -- what a header that fits says
   pub record Header : Type 0 where
@@ -125,20 +132,20 @@ module _ (t : List ℕ) where
       })
 
   -- a count above 4,096 breaks the frame
-  pub counted-over : {r n : ℕ} {f : TrayFrame} → r < getD t 0 0 → n ≡ countOf t r → 4096 < n → f .fits ≡ false → Framing t f
+  pub counted-over : {r n : ℕ} {f : TrayFrame} → r < getD t 0 0 → n ≡ countOf t r → 4096 < n → NoFrame f → Framing t f
   unfolding framed runCount
   counted-over {r} {n} {f} l h over none =
       let high : 4096 < countOf t r = omega arith in
-      no-framing (none ∙ sym (out (headerFits t) _ (countsFit-not t (getD t 0 0) r l high))) none
+      no-framing (none .none ∙ sym (out (headerFits t) _ (countsFit-not t (getD t 0 0) r l high))) none
     where
       out : (a : Bool) {b : Bool} (c : Bool) → b ≡ false → (a && (b && c)) ≡ false
       out true c p = rw p
       out false c p = refl
 
   -- a header that does not fit breaks it too
-  pub header-wrong : {f : TrayFrame} → headerFits t ≡ false → f .fits ≡ false → Framing t f
+  pub header-wrong : {f : TrayFrame} → headerFits t ≡ false → NoFrame f → Framing t f
   unfolding framed
-  header-wrong h none = no-framing (none ∙ sym (rw h)) none
+  header-wrong h none = no-framing (none .none ∙ sym (rw h)) none
 
   -- all counts found: the length decides
   pub counted-all : {counts starts : List ℕ} {at r h : ℕ} → headerFits t ≡ true → Counted counts starts at r → h ≡ getD t 0 0 → h ≤ r
@@ -151,6 +158,8 @@ module _ (t : List ℕ) where
       let fit : countsFit t (getD t 0 0) ≡ true = ap (countsFit t) (sym all) ∙ c .fit in
       record {
         fits = sym (rw (fits, fit) (ap (eqb (length t)) (sym ends) ∙ eqb-turned (length t) at));
+        room-counts = c .room-counts;
+        room-starts = c .room;
         runs = λ y. e;
         counts = λ y i k. c .counts-are i (subst (λ (n : ℕ). i < n) (sym all) k);
         starts = λ y i k. c .starts-are i (subst (λ (n : ℕ). i < suc n) (sym all) (suc-le-suc k));
@@ -164,43 +173,53 @@ module _ (t : List ℕ) where
       let runs : f .runs ≡ runCount t = g .runs fits in
       let most : runCount t ≤ 63 = frame .most-runs in
       record {
-        frame = frame;
         runs = runs;
         few = omega arith;
-        counts = λ r l. g .counts fits r (omega arith);
-        starts = λ r l. g .starts fits r (omega arith);
+        room = g .room-counts;
+        counts = g .counts fits;
+        at = record { frame = frame; few = most; room = g .room-starts; starts-are = g .starts fits };
       }
 
   -- run r as the code cuts it out of the tray
-  pub record Cut (r a e n : ℕ) : Type 0 where
-    pub inside : r < runCount t
-    pub few : n ≤ 4096
+  pub record Cut (r a e : ℕ) : Type 0 where
+    pub few : countOf t r ≤ 4096
     pub start : a ≤ e
     pub end : e ≤ length t
-    pub whole : length (take (e - a) (drop a t)) ≡ 25 * n
-    pub records : n ≡ countOf t r
+    pub whole : length (take (e - a) (drop a t)) ≡ 25 * countOf t r
     pub bytes : take (e - a) (drop a t) ≡ runBytes t r
 
-  pub cut : {f : TrayFrame} → Opened t f → {r i : ℕ} → r < f .runs → i ≡ r → Cut r (getD (f .starts) i 0) (getD (f .starts) (i + 1) 0) (getD (f .counts) i 0)
+  pub cut : {starts : List ℕ} {r i : ℕ} → Starts t starts → r < runCount t → i ≡ r → Cut r (getD starts i 0) (getD starts (i + 1) 0)
   unfolding runBytes
-  cut {f} o {r} {i} l e =
-      let s : getD (f .starts) i 0 ≡ startOf t r = ap (λ (k : ℕ). getD (f .starts) k 0) e ∙ o .starts r (omega arith) in
+  cut {starts} {r} {i} o l e =
+      let s : getD starts i 0 ≡ startOf t r = ap (λ (k : ℕ). getD starts k 0) e ∙ o .starts-are r (omega arith) in
       let next : i + 1 ≡ suc r = omega arith in
-      let u : getD (f .starts) (i + 1) 0 ≡ startOf t (suc r) = ap (λ (k : ℕ). getD (f .starts) k 0) next ∙ o .starts (suc r) l in
-      let n : getD (f .counts) i 0 ≡ countOf t r = ap (λ (k : ℕ). getD (f .counts) k 0) e ∙ o .counts r l in
+      let u : getD starts (i + 1) 0 ≡ startOf t (suc r) = ap (λ (k : ℕ). getD starts k 0) next ∙ o .starts-are (suc r) l in
       let up : startOf t r ≤ startOf t (suc r) = startOf-le t r (suc r) (omega arith) in
-      let runs : f .runs ≡ runCount t = o .runs in
-      let in-tray : startOf t (suc r) ≤ length t = startOf-within t (o .frame) (suc r) (omega arith) in
-      let bytes : take (getD (f .starts) (i + 1) 0 - getD (f .starts) i 0) (drop (getD (f .starts) i 0) t) ≡ runBytes t r =
+      let in-tray : startOf t (suc r) ≤ length t = startOf-within t (o .frame) (suc r) l in
+      let bytes : take (getD starts (i + 1) 0 - getD starts i 0) (drop (getD starts i 0) t) ≡ runBytes t r =
       ap₂ (λ (x y : ℕ). take (y - x) (drop x t)) s u in
-      let inside : r < runCount t = omega arith in
-      let few : countOf t r ≤ 4096 = o .frame .counts r inside in
       record {
-        inside = inside;
-        few = omega arith;
+        few = o .frame .counts r l;
         start = omega arith;
         end = omega arith;
-        whole = ap length bytes ∙ length-run t (o .frame) r (omega arith) ∙ ap (λ (k : ℕ). 25 * k) (sym n);
-        records = n;
+        whole = ap length bytes ∙ length-run t (o .frame) r l;
         bytes = bytes;
       }
+
+  -- run r with its count
+  pub record CutRun (r a e n : ℕ) : Type 0 where
+    pub inside : r < runCount t
+    pub few : n ≤ 4096
+    pub records : n ≡ countOf t r
+    pub whole : length (take (e - a) (drop a t)) ≡ 25 * n
+    pub part : Cut r a e
+
+  pub cut-run : {f : TrayFrame} {r i : ℕ} → Opened t f → r < f .runs → i ≡ r
+      → CutRun r (getD (f .starts) i 0) (getD (f .starts) (i + 1) 0) (getD (f .counts) i 0)
+  cut-run {f} {r} {i} o l e =
+      let runs : f .runs ≡ runCount t = o .runs in
+      let inside : r < runCount t = omega arith in
+      let k = cut (o .at) inside e in
+      let n : getD (f .counts) i 0 ≡ countOf t r = ap (λ (j : ℕ). getD (f .counts) j 0) e ∙ o .counts r inside in
+      let low : countOf t r ≤ 4096 = k .few in
+      record { inside = inside; few = omega arith; records = n; whole = k .whole ∙ ap (λ (j : ℕ). 25 * j) (sym n); part = k }

@@ -1,5 +1,4 @@
--- The tray of document 01's sample input ("The program `drawer`": the bytes after the leading 01 of the first line): point 7:1 in run 0,
--- points 7:1 and 7:2 in run 1, all live. Each case holds by computation.
+-- What the sample tray means, and what its runs are written as. Each case holds by computation.
 use mathlib.Core.Path.{_≡_, refl}
 use Prim.Native.Nat.{ℕ}
 use mathlib.Core.List.{List, [], _∷_}
@@ -7,16 +6,8 @@ use Rattle.number.specs.Big.{be, bytesOf}
 use Rattle.theory.specs.Records.{Record}
 use Rattle.tray.specs.Frame.{runCount, countOf, recordsBefore, startOf, runBytes}
 use Rattle.tray.specs.Run.{recordFrom}
+use Rattle.tray.specs.Sample.{sample}
 use Rattle.tray.specs.Meaning.{listed, runOf, runsOf, recordBytes, recordsBytes, countsBytes, runsBytes, trayBytes}
-
--- header, counts, and a record a line
-abbrev sample : List ℕ
-sample =
-    2 ∷ 0 ∷ 0 ∷ 0
-    ∷ 0 ∷ 1 ∷ 0 ∷ 2
-    ∷ 0 ∷ 0 ∷ 0 ∷ 0 ∷ 0 ∷ 7 ∷ 0 ∷ 1 ∷ 0 ∷ 0 ∷ 0 ∷ 3 ∷ 0x20 ∷ 0 ∷ 0 ∷ 1 ∷ 0x90 ∷ 0 ∷ 0 ∷ 0 ∷ 1 ∷ 0 ∷ 0 ∷ 0 ∷ 2
-    ∷ 0 ∷ 0 ∷ 0 ∷ 0 ∷ 0 ∷ 7 ∷ 0 ∷ 1 ∷ 0 ∷ 0 ∷ 0 ∷ 0 ∷ 0x64 ∷ 0 ∷ 0 ∷ 0 ∷ 0x32 ∷ 0 ∷ 0 ∷ 0 ∷ 1 ∷ 0 ∷ 0 ∷ 0 ∷ 2
-    ∷ 0 ∷ 0 ∷ 0 ∷ 0 ∷ 0 ∷ 7 ∷ 0 ∷ 2 ∷ 0 ∷ 0 ∷ 0 ∷ 0 ∷ 0x65 ∷ 0 ∷ 0 ∷ 0 ∷ 0x32 ∷ 0 ∷ 0 ∷ 0 ∷ 0 ∷ 0xff ∷ 0xff ∷ 0xff ∷ 0xff ∷ []
 
 -- a point, live
 abbrev point : ℕ → ℕ → Record

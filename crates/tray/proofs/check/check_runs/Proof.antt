@@ -8,7 +8,7 @@ use Rattle.tray.proofs.check.check_runs.Statement.{statement}
 use Rattle.tray.proofs.check.check_runs.Tie as tie
 use Prim.Native.Nat.{_-_}
 use Rattle.tray.specs.Check.Code.{Judging, judging-none, judging-more, judged-end, judged-kind, judged-key}
-use Rattle.tray.specs.Frame.Code.{cut}
+use Rattle.tray.specs.Frame.Code.{cut-run}
 
 abbrev Inv-loop : tie.InvT-loop
 Inv-loop t h counts starts before₀ r₀ before r = Judging t before r
@@ -44,16 +44,16 @@ array-read-e : tie.Need-array-read-e Inv-loop μ-loop
 array-read-e c = search needs
 
 sub-check-run : tie.Need-sub-check-run Inv-loop μ-loop
-sub-check-run c = let k = cut _ (c .before .before .before .before .before .before .pre) (c .before .loop-test .taken) (c .wide-size .ensures) in omega (arith, k .start)
+sub-check-run c = let k = cut-run _ (c .before .before .before .before .before .before .pre) (c .before .loop-test .taken) (c .wide-size .ensures) in omega (arith, k .part .start)
 
 part-check-run-start : tie.Need-part-check-run-start Inv-loop μ-loop
-part-check-run-start c = let k = cut _ (c .before .before .before .before .before .before .pre) (c .before .loop-test .taken) (c .wide-size .ensures) in k .start
+part-check-run-start c = let k = cut-run _ (c .before .before .before .before .before .before .pre) (c .before .loop-test .taken) (c .wide-size .ensures) in k .part .start
 
 part-check-run-end : tie.Need-part-check-run-end Inv-loop μ-loop
-part-check-run-end c = let k = cut _ (c .before .before .before .before .before .before .pre) (c .before .loop-test .taken) (c .wide-size .ensures) in k .end
+part-check-run-end c = let k = cut-run _ (c .before .before .before .before .before .before .pre) (c .before .loop-test .taken) (c .wide-size .ensures) in k .part .end
 
 check-run-requires : tie.Need-check-run-requires Inv-loop μ-loop
-check-run-requires c κs = let k = cut _ (c .before .before .before .before .before .before .before .pre) (c .before .before .loop-test .taken) (c .before .wide-size .ensures) in k .whole
+check-run-requires c κs = let k = cut-run _ (c .before .before .before .before .before .before .before .pre) (c .before .before .loop-test .taken) (c .before .wide-size .ensures) in k .whole
 
 enum-told : tie.Need-enum-told Inv-loop μ-loop
 enum-told c = search needs
@@ -62,7 +62,7 @@ size16-requires : tie.Need-size16-requires Inv-loop μ-loop
 size16-requires c κs = search needs
 
 add-before : tie.Need-add-before Inv-loop μ-loop
-add-before c = let k = cut _ (c .before .before .before .before .before .before .before .before .before .before .before .pre) (c .before .before .before .before .before .before .loop-test .taken) (c .before .before .before .before .before .wide-size .ensures) in omega (arith, k .few, c .before .before .before .before .before .before .before .loop .inv .low, c .size16 .ensures, c .before .before .before .before .before .before .before .before .before .before .before .pre .few)
+add-before c = let k = cut-run _ (c .before .before .before .before .before .before .before .before .before .before .before .pre) (c .before .before .before .before .before .before .loop-test .taken) (c .before .before .before .before .before .wide-size .ensures) in omega (arith, k .few, c .before .before .before .before .before .before .before .loop .inv .low, c .size16 .ensures, c .before .before .before .before .before .before .before .before .before .before .before .pre .few)
 
 add-r : tie.Need-add-r Inv-loop μ-loop
 add-r c = search needs
@@ -71,7 +71,7 @@ loop-less : tie.Need-loop-less Inv-loop μ-loop
 loop-less c = search needs
 
 loop-again : tie.Need-loop-again Inv-loop μ-loop
-loop-again c = let k = cut _ (c .before .before .before .before .before .before .before .before .before .before .before .pre) (c .before .before .before .before .before .before .loop-test .taken) (c .before .before .before .before .before .wide-size .ensures) in judging-more _ (c .before .before .before .before .before .before .before .loop .inv) (k .inside) (c .before .before .before .check-run .ensures ∙ ap (judgeRun _) (k .bytes)) (k .records) (c .before .enum-told .given .1) (k .few) (c .size16 .ensures)
+loop-again c = let k = cut-run _ (c .before .before .before .before .before .before .before .before .before .before .before .pre) (c .before .before .before .before .before .before .loop-test .taken) (c .before .before .before .before .before .wide-size .ensures) in judging-more _ (c .before .before .before .before .before .before .before .loop .inv) (k .inside) (c .before .before .before .check-run .ensures ∙ ap (judgeRun _) (k .part .bytes)) (k .records) (c .before .enum-told .given .1) (k .few) (c .size16 .ensures)
 
 enum-known-p : tie.Need-enum-known-p Inv-loop μ-loop
 enum-known-p c = search needs
@@ -83,7 +83,7 @@ add-t31 : tie.Need-add-t31 Inv-loop μ-loop
 add-t31 c = search needs
 
 returns : tie.Need-returns Inv-loop μ-loop
-returns c = let k = cut _ (c .before .before .before .before .before .before .before .before .before .before .before .before .pre) (c .before .before .before .before .before .before .before .loop-test .taken) (c .before .before .before .before .before .before .wide-size .ensures) in judged-kind _ (c .before .before .before .before .before .before .before .before .loop .inv) (k .inside) (c .before .before .before .before .check-run .ensures ∙ ap (judgeRun _) (k .bytes)) (k .records) (c .before .before .p .given .1) (omega arith)
+returns c = let k = cut-run _ (c .before .before .before .before .before .before .before .before .before .before .before .before .pre) (c .before .before .before .before .before .before .before .loop-test .taken) (c .before .before .before .before .before .before .wide-size .ensures) in judged-kind _ (c .before .before .before .before .before .before .before .before .loop .inv) (k .inside) (c .before .before .before .before .check-run .ensures ∙ ap (judgeRun _) (k .part .bytes)) (k .records) (c .before .before .p .given .1) (omega arith)
 
 enum-known-p-2 : tie.Need-enum-known-p-2 Inv-loop μ-loop
 enum-known-p-2 c = search needs
@@ -95,7 +95,7 @@ add-t35 : tie.Need-add-t35 Inv-loop μ-loop
 add-t35 c = search needs
 
 returns-2 : tie.Need-returns-2 Inv-loop μ-loop
-returns-2 c = let k = cut _ (c .before .before .before .before .before .before .before .before .before .before .before .before .pre) (c .before .before .before .before .before .before .before .loop-test .taken) (c .before .before .before .before .before .before .wide-size .ensures) in judged-key _ (c .before .before .before .before .before .before .before .before .loop .inv) (k .inside) (c .before .before .before .before .check-run .ensures ∙ ap (judgeRun _) (k .bytes)) (k .records) (c .before .before .p2 .given .1) (omega arith)
+returns-2 c = let k = cut-run _ (c .before .before .before .before .before .before .before .before .before .before .before .before .pre) (c .before .before .before .before .before .before .before .loop-test .taken) (c .before .before .before .before .before .before .wide-size .ensures) in judged-key _ (c .before .before .before .before .before .before .before .before .loop .inv) (k .inside) (c .before .before .before .before .check-run .ensures ∙ ap (judgeRun _) (k .part .bytes)) (k .records) (c .before .before .p2 .given .1) (omega arith)
 
 returns-3 : tie.Need-returns-3 Inv-loop μ-loop
 returns-3 c = judged-end _ (c .before .loop .inv) (omega arith)
