@@ -40,7 +40,7 @@ no-frame-requires : tie.Need-no-frame-requires Inv-loop μ-loop
 no-frame-requires c κs = search needs
 
 returns : tie.Need-returns Inv-loop μ-loop
-returns c = counted-over _ (omega arith) (c .before .before .count-of .ensures) (c .before .if1 .taken) (c .no-frame .ensures)
+returns c = counted-over _ (omega arith) (c .before .before .count-of .ensures) (omega arith) (c .no-frame .ensures)
 
 wide-size-requires-2 : tie.Need-wide-size-requires-2 Inv-loop μ-loop
 wide-size-requires-2 c κs = search needs

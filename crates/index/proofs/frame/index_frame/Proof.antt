@@ -1,0 +1,67 @@
+-- `index::frame::index_frame` meets its contract: each way out is a test of the frame, in its order. Assumes nothing.
+use Rattle.index.specs.Layout.Code.{frame-short, frame-runs, frame-low, frame-high, frame-2, frame-3, frame-long, frame-fits}
+use native.Mathlib.Omega.{arith}
+use borrow.Author.Needs.{needs}
+use Rattle.index.proofs.frame.index_frame.Statement.{statement}
+use Rattle.index.proofs.frame.index_frame.Tie as tie
+
+returns : tie.Need-returns
+returns c = frame-short _ _ (c .if1 .taken)
+
+shared-slice-read-if2 : tie.Need-shared-slice-read-if2
+shared-slice-read-if2 c = omega arith
+
+returns-2 : tie.Need-returns-2
+returns-2 c = frame-runs _ _ (c .before .before .if1 .left) (c .if2 .taken)
+
+shared-slice-read-d : tie.Need-shared-slice-read-d
+shared-slice-read-d c = omega arith
+
+returns-3 : tie.Need-returns-3
+returns-3 c = frame-low _ _ (c .before .before .before .before .if1 .left) (c .before .before .if2 .left) (c .if3 .taken)
+
+returns-4 : tie.Need-returns-4
+returns-4 c = frame-high _ _ (c .before .before .before .before .before .if1 .left) (c .before .before .before .if2 .left) (c .before .if3 .left) (c .if4 .taken)
+
+shared-slice-read-if5 : tie.Need-shared-slice-read-if5
+shared-slice-read-if5 c = omega arith
+
+returns-5 : tie.Need-returns-5
+returns-5 c = frame-2 _ _ (c .before .before .before .before .before .before .before .if1 .left) (c .before .before .before .before .before .if2 .left) (c .before .before .before .if3 .left) (c .before .before .if4 .left) (c .if5 .taken)
+
+shared-slice-read-if6 : tie.Need-shared-slice-read-if6
+shared-slice-read-if6 c = omega arith
+
+returns-6 : tie.Need-returns-6
+returns-6 c = frame-3 _ _ (c .before .before .before .before .before .before .before .before .before .if1 .left) (c .before .before .before .before .before .before .before .if2 .left) (c .before .before .before .before .before .if3 .left) (c .before .before .before .before .if4 .left) (c .before .before .if5 .left) (c .if6 .taken)
+
+big4-requires : tie.Need-big4-requires
+big4-requires c κs = omega arith
+
+segment-at-requires : tie.Need-segment-at-requires
+segment-at-requires c κs = search needs
+
+returns-7 : tie.Need-returns-7
+returns-7 c = frame-fits _ _ (c .before .before .before .before .before .before .before .before .before .before .before .before .if1 .left) (c .before .before .before .before .before .before .before .before .before .before .if2 .left) (c .before .before .before .before .before .before .before .before .if3 .left) (c .before .before .before .before .before .before .before .if4 .left) (c .before .before .before .before .before .if5 .left) (c .before .before .before .if6 .left) (c .before .before .big4 .ensures) (c .before .segment-at .ensures) (c .if7 .taken)
+
+returns-8 : tie.Need-returns-8
+returns-8 c = frame-long _ _ (c .before .before .before .before .before .before .before .before .before .before .before .before .if1 .left) (c .before .before .before .before .before .before .before .before .before .before .if2 .left) (c .before .before .before .before .before .before .before .before .if3 .left) (c .before .before .before .before .before .before .before .if4 .left) (c .before .before .before .before .before .if5 .left) (c .before .before .before .if6 .left) (c .before .before .big4 .ensures) (c .before .segment-at .ensures) (c .if7 .left)
+
+pub index-frame-spec : {M : Type 1} → statement M
+index-frame-spec =
+    tie.close
+    (tie.spec
+    returns
+    shared-slice-read-if2
+    returns-2
+    shared-slice-read-d
+    returns-3
+    returns-4
+    shared-slice-read-if5
+    returns-5
+    shared-slice-read-if6
+    returns-6
+    big4-requires
+    segment-at-requires
+    returns-7
+    returns-8)

@@ -1,0 +1,51 @@
+-- `index::frame::segment_at` meets its contract: no product is large. Assumes nothing.
+use Rattle.index.specs.Layout.Code.{size-low}
+use Rattle.index.specs.Layout.{segmentAt, headSize}
+use Prim.Native.Nat.{ℕ, _+_, _*_}
+use mathlib.Core.Path.{ap₂}
+use native.Mathlib.Omega.{arith}
+use borrow.Author.Needs.{needs}
+use Rattle.index.proofs.frame.segment_at.Statement.{statement}
+use Rattle.index.proofs.frame.segment_at.Tie as tie
+
+cast-result : tie.Need-cast-result
+cast-result c = search needs
+
+wide-size-requires : tie.Need-wide-size-requires
+wide-size-requires c κs = search needs
+
+mul-result : tie.Need-mul-result
+mul-result c = omega arith
+
+add-result : tie.Need-add-result
+add-result c = omega arith
+
+wide-size-requires-2 : tie.Need-wide-size-requires-2
+wide-size-requires-2 c κs = search needs
+
+add-result-2 : tie.Need-add-result-2
+add-result-2 c = omega arith
+
+mul-result-2 : tie.Need-mul-result-2
+mul-result-2 c = omega (arith, size-low (c .before .before .args .g .0) (8 + 2 * (c .before .wide-size .result) + (c .wide-size2 .result)) (omega arith) (omega arith))
+
+add-result-3 : tie.Need-add-result-3
+add-result-3 c = omega (arith, size-low (c .before .before .args .g .0) (8 + 2 * (c .before .wide-size .result) + (c .wide-size2 .result)) (omega arith) (omega arith))
+
+returns : tie.Need-returns
+unfolding segmentAt headSize
+returns c = ap₂ (λ (a b : ℕ). 8 + (c .before .before .args .g .0) * (8 + 2 * a + b)) (c .before .wide-size .ensures) (c .wide-size2 .ensures)
+
+pub segment-at-spec : {M : Type 1} → statement M
+segment-at-spec =
+    tie.close
+    (tie.spec
+    cast-result
+    wide-size-requires
+    mul-result
+    add-result
+    wide-size-requires-2
+    add-result-2
+    mul-result-2
+    add-result-3
+    returns)
