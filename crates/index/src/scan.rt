@@ -123,7 +123,7 @@ fn step(
     before: u8,
 ) -> Steps
     requires { ⌜ Reading (now t) (now counts) (now starts) (now places) ⌝ }
-    requires { ⌜ h ≡ runCount (now t) ⌝ }
+    requires { ⌜ (h ≡ runCount (now t)) × (before < 64) ⌝ }
     ensures { λ s. ⌜ trailed (s .right) (now (places .exit)) (s .last) ≡ stepOf (now (t .entry)) h (now (places .entry)) v last before ⌝ }
 {
     let r = v % 64;
@@ -199,7 +199,7 @@ fn follow(
     first_run: u8,
 ) -> Steps
     requires { ⌜ Reading (now t) (now counts) (now starts) (now places) ⌝ }
-    requires { ⌜ h ≡ runCount (now t) ⌝ }
+    requires { ⌜ (h ≡ runCount (now t)) × («first_run» < 64) ⌝ }
     requires { ⌜ (from ≤ to) × (to ≤ length (now x)) ⌝ }
     ensures { λ s. ⌜ trailed (s .right) (now (places .exit)) (s .last) ≡ following (now (t .entry)) h (now (x .entry)) (to - from) from (now (places .entry)) first «first_run» ⌝ }
 {

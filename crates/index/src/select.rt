@@ -42,12 +42,6 @@ fn equal(a: u64, b: u64) -> u8
     if a == b { 1 } else { 0 }
 }
 
-fn less(a: u64, b: u64) -> u8
-    ensures { λ r. ⌜ r ≡ cond (ltb a b) 1 0 ⌝ }
-{
-    if a < b { 1 } else { 0 }
-}
-
 fn gone(kind: u8) -> u8
     ensures { λ r. ⌜ r ≡ cond (eqb kind 0) 0 1 ⌝ }
 {
@@ -61,14 +55,18 @@ pub fn may_begin(v: u8, e: Head) -> bool
     v == v % 64 + 64 * gone(e.kind)
 }
 
-// Whether a selector may follow a record with key `last` of run `before`.
+// Whether a selector may follow a record with key `last` of run `before`. In a right index keys never fall, so only the mark tells equal keys
+// from rising ones, and the runs are compared by a division: what cannot be foretold is not branched on.
 pub fn may_follow(last: u64, before: u8, v: u8, e: Head) -> bool
+    requires { ⌜ before < 64 ⌝ }
     ensures { λ r. ⌜ r ≡ joins last before v (headed e) ⌝ }
 {
     let r = v % 64;
-    let same = equal(last, e.key);
-    if v == r + 128 * same + 64 * gone(e.kind) {
-        return 0 < less(last, e.key) + same * less(before as u64, r as u64);
+    let key = e.key;
+    if v == r + 128 * equal(last, key) + 64 * gone(e.kind) {
+        if last <= key {
+            return v / 128 <= (63 + r - before) / 64;
+        }
     }
     false
 }

@@ -15,7 +15,7 @@ abbrev μ-loop : tie.MeasureT-loop
 μ-loop t x h counts starts from to places₀ first first-run last₀ before₀ i₀ places last before i = to - i
 
 loop-holds : tie.Need-loop-holds Inv-loop μ-loop
-loop-holds c = following-starts (c .before .before .before .before .before .pre .1 .1 .0) (c .before .before .before .before .before .pre .0)
+loop-holds c = following-starts (c .before .before .before .before .before .pre .1 .1 .0) (c .before .before .before .before .before .pre .1 .0 .1) (c .before .before .before .before .before .pre .0)
 
 shared-slice-read-v : tie.Need-shared-slice-read-v Inv-loop μ-loop
 shared-slice-read-v c = omega arith
@@ -33,7 +33,7 @@ returns : tie.Need-returns Inv-loop μ-loop
 returns c = following-ended (c .before .before .before .before .loop .inv) _ (c .before .before .before .loop-test .taken) (c .before .if1 .taken) (c .only-placeholders .ensures)
 
 step-requires : tie.Need-step-requires Inv-loop μ-loop
-step-requires c κs = (c .before .before .before .before .loop .inv .reading, c .before .before .before .before .before .before .before .before .before .before .pre .1 .0)
+step-requires c κs = (c .before .before .before .before .loop .inv .reading, (c .before .before .before .before .before .before .before .before .before .before .pre .1 .0 .0, c .before .before .before .before .loop .inv .run))
 
 add-i : tie.Need-add-i Inv-loop μ-loop
 add-i c = omega arith

@@ -16,7 +16,7 @@ add-follow : tie.Need-add-follow
 add-follow c = omega arith
 
 follow-requires : tie.Need-follow-requires
-follow-requires c κs = (reading-same (c .before .before .before .before .before .before .before .before .before .before .before .before .pre .0) (c .before .before .before .before .begin .kept .1 .1 .1 .1 .0), (c .before .before .before .before .before .before .before .before .before .before .before .before .pre .1 .0, omega arith))
+follow-requires c κs = (reading-same (c .before .before .before .before .before .before .before .before .before .before .before .before .pre .0) (c .before .before .before .before .begin .kept .1 .1 .1 .1 .0), ((c .before .before .before .before .before .before .before .before .before .before .before .before .pre .1 .0, omega arith), omega arith))
 
 heads-above-requires : tie.Need-heads-above-requires
 heads-above-requires c κs = (reading-same (c .before .before .before .before .before .before .before .before .before .before .before .before .before .before .before .before .before .pre .0) (c .before .before .before .before .follow .kept .1 .1 .1 .1 .1 .1 .1 .0 ∙ c .before .before .before .before .before .before .before .before .before .begin .kept .1 .1 .1 .1 .0), c .before .before .before .before .before .before .before .before .before .before .before .before .before .before .before .before .before .pre .1 .0)

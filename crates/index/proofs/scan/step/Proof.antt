@@ -26,7 +26,7 @@ head-of-requires : tie.Need-head-of-requires
 head-of-requires c κs = (c .before .before .before .before .before .before .before .before .before .pre .0 .at, (omega arith, next-below (c .before .before .before .before .before .before .before .before .before .pre .0) (omega arith) (c .before .before .before .wide-size .ensures) (c .if2 .taken)))
 
 may-follow-requires : tie.Need-may-follow-requires
-may-follow-requires c κs = search needs
+may-follow-requires c κs = omega arith
 
 add-places : tie.Need-add-places
 add-places c = omega (arith, c .before .before .before .before .shared-slice-known4 .given (c .before .before .before .before .before .before .wide-size .result))
@@ -42,15 +42,15 @@ same-length c = simp length-set
 
 returns : tie.Need-returns
 unfolding trailed
-returns c = step-is _ (c .before .before .before .before .before .before .before .before .before .before .before .before .pre .0) (c .before .before .before .before .before .before .before .before .before .before .before .before .pre .1) (c .before .before .before .before .before .before .before .if1 .taken) (c .before .before .before .before .before .before .wide-size .ensures) (c .before .before .before .if2 .taken) (c .before .before .head-of .ensures) _ _ (c .before .may-follow .ensures) (c .if3 .taken)
+returns c = step-is _ (c .before .before .before .before .before .before .before .before .before .before .before .before .pre .0) (c .before .before .before .before .before .before .before .before .before .before .before .before .pre .1 .0) (c .before .before .before .before .before .before .before .if1 .taken) (c .before .before .before .before .before .before .wide-size .ensures) (c .before .before .before .if2 .taken) (c .before .before .head-of .ensures) _ _ (c .before .may-follow .ensures) (c .if3 .taken)
 
 returns-2 : tie.Need-returns-2
 unfolding trailed
-returns-2 c = step-not _ (c .before .before .before .before .before .before .before .before .before .before .before .before .pre .0) (c .before .before .before .before .before .before .before .before .before .before .before .before .pre .1) (c .before .before .before .before .before .before .before .if1 .taken) (c .before .before .before .before .before .before .wide-size .ensures) (c .before .before .before .if2 .taken) (c .before .before .head-of .ensures) _ _ (c .before .may-follow .ensures) (c .if3 .left)
+returns-2 c = step-not _ (c .before .before .before .before .before .before .before .before .before .before .before .before .pre .0) (c .before .before .before .before .before .before .before .before .before .before .before .before .pre .1 .0) (c .before .before .before .before .before .before .before .if1 .taken) (c .before .before .before .before .before .before .wide-size .ensures) (c .before .before .before .if2 .taken) (c .before .before .head-of .ensures) _ _ (c .before .may-follow .ensures) (c .if3 .left)
 
 returns-3 : tie.Need-returns-3
 unfolding trailed
-returns-3 c = step-end _ (c .before .before .before .before .before .before .before .before .before .pre .0) (c .before .before .before .before .before .before .before .before .before .pre .1) (c .before .before .before .before .if1 .taken) (c .before .before .before .wide-size .ensures) _ _ (c .if2 .left)
+returns-3 c = step-end _ (c .before .before .before .before .before .before .before .before .before .pre .0) (c .before .before .before .before .before .before .before .before .before .pre .1 .0) (c .before .before .before .before .if1 .taken) (c .before .before .before .wide-size .ensures) _ _ (c .if2 .left)
 
 returns-4 : tie.Need-returns-4
 unfolding trailed

@@ -1,8 +1,6 @@
 -- `index::select::may_follow` meets its contract: the marks and the order are reckoned as numbers. Assumes nothing.
-use Rattle.index.specs.Scan.Code.Select.{bits-low}
-use Rattle.index.specs.Scan.Code.Select.{bit-low, off-low, follow-is, follow-not}
-use lib.Dec.{eqb, ltb}
-use Prim.Native.Nat.{_%_}
+use Rattle.index.specs.Scan.Code.Select.{bit-low, off-low, follow-is, follow-falls, follow-not}
+use lib.Dec.{eqb}
 use native.Mathlib.Omega.{arith}
 use borrow.Author.Needs.{needs}
 use Rattle.index.proofs.select.may_follow.Statement.{statement}
@@ -26,26 +24,20 @@ mul-if1-2 c = omega (arith, c .gone .ensures, off-low (eqb (c .before .before .a
 add-if1-2 : tie.Need-add-if1-2
 add-if1-2 c = omega (arith, c .before .equal .ensures, bit-low (eqb (c .before .before .args .last) (c .before .before .args .e .key)), c .gone .ensures, off-low (eqb (c .before .before .args .e .kind) 0))
 
-less-requires : tie.Need-less-requires
-less-requires c κs = search needs
-
-cast-less : tie.Need-cast-less
-cast-less c = search needs
-
-less-requires-2 : tie.Need-less-requires-2
-less-requires-2 c κs = search needs
-
-mul-result : tie.Need-mul-result
-mul-result c = omega (arith, bits-low (eqb (c .before .before .before .before .before .args .last) (c .before .before .before .before .before .args .e .key)) (ltb (c .before .before .before .before .before .args .before) (c .before .before .before .before .before .args .v % 64)) (c .before .before .before .before .equal .ensures) (c .less2 .ensures))
-
 add-result : tie.Need-add-result
-add-result c = omega (arith, c .before .less .ensures, bit-low (ltb (c .before .before .before .before .before .args .last) (c .before .before .before .before .before .args .e .key)), bits-low (eqb (c .before .before .before .before .before .args .last) (c .before .before .before .before .before .args .e .key)) (ltb (c .before .before .before .before .before .args .before) (c .before .before .before .before .before .args .v % 64)) (c .before .before .before .before .equal .ensures) (c .less2 .ensures))
+add-result c = omega arith
+
+sub-result : tie.Need-sub-result
+sub-result c = omega arith
 
 returns : tie.Need-returns
-returns c = follow-is _ _ _ _ (c .before .before .before .before .equal .ensures) (c .before .before .before .gone .ensures) (c .before .before .if1 .taken) (c .before .less .ensures) (c .less2 .ensures)
+returns c = follow-is _ _ _ _ (c .before .before .before .equal .ensures) (c .before .before .gone .ensures) (c .before .if1 .taken) (c .before .before .before .before .pre) (c .if2 .taken)
 
 returns-2 : tie.Need-returns-2
-returns-2 c = follow-not _ _ _ _ (c .before .before .equal .ensures) (c .before .gone .ensures) (c .if1 .left)
+returns-2 c = follow-falls _ _ _ _ (c .before .before .before .equal .ensures) (c .before .before .gone .ensures) (c .before .if1 .taken) (c .if2 .left)
+
+returns-3 : tie.Need-returns-3
+returns-3 c = follow-not _ _ _ _ (c .before .before .equal .ensures) (c .before .gone .ensures) (c .if1 .left)
 
 pub may-follow-spec : {M : Type 1} → statement M
 may-follow-spec =
@@ -57,10 +49,8 @@ may-follow-spec =
     gone-requires
     mul-if1-2
     add-if1-2
-    less-requires
-    cast-less
-    less-requires-2
-    mul-result
     add-result
+    sub-result
     returns
-    returns-2)
+    returns-2
+    returns-3)

@@ -28,6 +28,7 @@ pub record Following (t x : List ℕ) (h : ℕ) (counts starts : List ℕ) (from
   pub long : length places ≡ length places₀
   pub low : from ≤ i
   pub high : i ≤ to
+  pub run : before < 64
   pub same : following t h x (to - i) i places last before ≡ following t h x (to - from) from places₀ first firstRun
 
 -- what a selector came to, and those after it
@@ -54,8 +55,8 @@ module _ (t : List ℕ) (h : ℕ) (x : List ℕ) where
       go false b = refl
 
 module _ {t x : List ℕ} {h : ℕ} {counts starts : List ℕ} {from to : ℕ} {places₀ : List ℕ} {first firstRun : ℕ} where
-  pub following-starts : from ≤ to → Reading t counts starts places₀ → Following t x h counts starts from to places₀ first firstRun places₀ first firstRun from
-  following-starts l g = record { reading = g; long = refl; low = omega arith; high = l; same = refl }
+  pub following-starts : from ≤ to → firstRun < 64 → Reading t counts starts places₀ → Following t x h counts starts from to places₀ first firstRun places₀ first firstRun from
+  following-starts l k g = record { reading = g; long = refl; low = omega arith; high = l; run = k; same = refl }
 
   module _ {places : List ℕ} {last before i : ℕ} (f : Following t x h counts starts from to places₀ first firstRun places last before i) where
     pub following-end : to ≤ i → kept places last ≡ following t h x (to - from) from places₀ first firstRun
@@ -91,6 +92,7 @@ module _ {t x : List ℕ} {h : ℕ} {counts starts : List ℕ} {from to : ℕ} {
             long = k ∙ f .long;
             low = let a : from ≤ i = f .low in omega arith;
             high = omega arith;
+            run = omega arith;
             same = rw e at stepped;
           }
 
