@@ -7,6 +7,7 @@
 --     be-bound             a number of w bytes is below 256 to the power w
 --     bytesOf-cons         the first byte of a number's bytes, and the others
 --     bytesOf-high         where a number has no more than w + 1 bytes, its first is a quotient
+--     bytesOf-add          the bytes of a number in two parts
 --     length-bytesOf, bytes-bytesOf     they are w bytes
 --     be-bytesOf           a number's bytes spell the number
 --     bytesOf-be           the bytes of the number that bytes spell are these bytes
@@ -14,7 +15,7 @@
 --     bytes-take, bytes-drop, bytes-cons, bytes-append     parts and joins of bytes are bytes
 -- Assumes nothing.
 use mathlib.Core.Path.{_≡_, refl, ap, ap₂, _∙_}
-use mathlib.Core.List.{List, [], _∷_, _++_}
+use mathlib.Core.List.{List, [], _∷_, _++_, append-nil, append-assoc}
 use Prim.Native.Nat.{ℕ, zero, suc, _+_, _*_, _/_, _%_, _^_, _≤_, _<_}
 use native.Mathlib.Nat.{add-assoc, add-zero, zero-add, add-suc, suc-add, mul-one, mul-assoc, pow-suc, pow-succ', le-step, lt-suc-self, one-le-pow, mod-eq-of-lt, div-one, div-lt-iff-lt-mul, div-div-eq-div-mul}
 use native.Mathlib.Numerals.{one-add}
@@ -85,6 +86,16 @@ pub bytesOf-high : (w n : ℕ) → n < 256 ^ suc w → bytesOf (suc w) n ≡ n /
 bytesOf-high w n h =
     let q : n / 256 ^ w < 256 = div-lt-iff-lt-mul (one-le-pow w 256 (omega arith)) .1 (rw pow-succ' at h) in
     bytesOf-cons w n ∙ ap (λ (x : ℕ). x ∷ bytesOf w n) (mod-eq-of-lt q)
+
+-- the bytes of a number in two parts
+pub bytesOf-add : (w v h l : ℕ) → l < 256 ^ v → bytesOf (w + v) (h * 256 ^ v + l) ≡ bytesOf w h ++ bytesOf v l
+unfolding bytesOf
+bytesOf-add w zero h l b = let z : l ≡ 0 = omega arith in rw z (simp (mul-one, add-zero, append-nil))
+bytesOf-add w (suc v) h l b =
+    let high : (h * 256 ^ suc v + l) / 256 ≡ h * 256 ^ v + l / 256 = simp (pow-suc, ← mul-assoc) (omega arith) in
+    let low : (h * 256 ^ suc v + l) % 256 ≡ l % 256 = simp (pow-suc, ← mul-assoc) (omega arith) in
+    let q : l / 256 < 256 ^ v = omega (arith, rw pow-suc at b) in
+    rw (add-suc, high, low, bytesOf-add w v h (l / 256) q) (append-assoc (bytesOf w h) (bytesOf v (l / 256)) (l % 256 ∷ []))
 
 -- they are as many as the width
 pub length-bytesOf : (w n : ℕ) → length (bytesOf w n) ≡ w
