@@ -9,7 +9,7 @@ use mathlib.Core.List.{List}
 use lib.ListN.{length, getD}
 use lib.Dec.{leb, eqb}
 use Rattle.number.specs.Big.{be}
-use Rattle.tray.specs.Meaning.{listed}
+use Rattle.theory.specs.Listed.{listed}
 
 -- the segment size D
 unfoldable pub sizeOf : List ℕ → ℕ

@@ -1,7 +1,7 @@
--- What is known of the bytes of a slice, as facts on numbers that `omega` reads. The proofs of `big2`, `big4` and `big8` cite it, and so
--- does whoever has a slice of bytes and needs `Bytes`.
+-- What is known of the bytes of a slice, as facts on numbers that `omega` reads. The proofs of `big2` and `big4` cite it, and so does
+-- whoever has a slice of bytes and needs `Bytes`.
 --     bytes-known   what a slice of bytes gives at each place, as `Bytes`
---     eight         the eight bytes from a place on
+--     Four, four    the four bytes from a place on
 -- Assumes nothing.
 use mathlib.Core.Path.{_≡_, ap}
 use mathlib.Core.List.{List}
@@ -16,20 +16,16 @@ use Rattle.number.specs.Big.{Bytes}
 pub bytes-known : (s : List ℕ) → ((i : ℕ) → Fits w8 (getD s i 0)) → Bytes s
 bytes-known s h i = h i .fits
 
--- each of eight is a byte; the first stands at the place itself
-pub record Eight (s : List ℕ) (p : ℕ) : Type 0 where
+-- each of four is a byte; the first stands at the place itself
+pub record Four (s : List ℕ) (p : ℕ) : Type 0 where
   pub first : getD s (p + 0) 0 ≡ getD s p 0
   pub byte0 : getD s (p + 0) 0 < 256
   pub byte1 : getD s (p + 1) 0 < 256
   pub byte2 : getD s (p + 2) 0 < 256
   pub byte3 : getD s (p + 3) 0 < 256
-  pub byte4 : getD s (p + 4) 0 < 256
-  pub byte5 : getD s (p + 5) 0 < 256
-  pub byte6 : getD s (p + 6) 0 < 256
-  pub byte7 : getD s (p + 7) 0 < 256
 
-pub eight : (s : List ℕ) (p : ℕ) → ((i : ℕ) → Fits w8 (getD s i 0)) → Eight s p
-eight s p h =
+pub four : (s : List ℕ) (p : ℕ) → ((i : ℕ) → Fits w8 (getD s i 0)) → Four s p
+four s p h =
     let b = bytes-known s h in
     record {
       first = ap (λ (i : ℕ). getD s i 0) (add-zero p);
@@ -37,8 +33,4 @@ eight s p h =
       byte1 = b (p + 1);
       byte2 = b (p + 2);
       byte3 = b (p + 3);
-      byte4 = b (p + 4);
-      byte5 = b (p + 5);
-      byte6 = b (p + 6);
-      byte7 = b (p + 7);
     }

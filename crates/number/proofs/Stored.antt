@@ -1,6 +1,6 @@
--- What the stores of `put2`, `put4` and `put8` leave is `put` of the number's bytes.
---     stored                     one law over the width
---     bytes-2, bytes-4, bytes-8  the bytes as each of them reckons them
+-- What the stores of `put2` and `put4` leave is `put` of the number's bytes.
+--     stored             one law over the width
+--     bytes-2, bytes-4   the bytes as each of them reckons them
 -- Assumes nothing.
 use mathlib.Core.Path.{_≡_, sym, ap, _∙_}
 use mathlib.Core.List.{List, [], _∷_}
@@ -27,9 +27,3 @@ pub bytes-4 : (n : ℕ) → n < 4294967296
     → bytesOf 4 n ≡ n / 0x1000000 ∷ n / 0x10000 % 256 ∷ n / 0x100 % 256 ∷ n % 256 ∷ []
 unfolding bytesOf
 bytes-4 n h = bytesOf-high 3 n h ∙ simp div-div-eq-div-mul
-
-pub bytes-8 : (n : ℕ) → n < 18446744073709551616
-    → bytesOf 8 n ≡ n / 0x100000000000000 ∷ n / 0x1000000000000 % 256 ∷ n / 0x10000000000 % 256 ∷ n / 0x100000000 % 256
-    ∷ n / 0x1000000 % 256 ∷ n / 0x10000 % 256 ∷ n / 0x100 % 256 ∷ n % 256 ∷ []
-unfolding bytesOf
-bytes-8 n h = bytesOf-high 7 n h ∙ simp div-div-eq-div-mul

@@ -18,8 +18,8 @@ pub fn wide32(x: u8) -> u32
     x as u32
 }
 
-// The byte, as 64 bits.
-pub fn wide64(x: u8) -> u64
+// The number of 32 bits, as 64.
+pub fn wide_32(x: u32) -> u64
     ensures { λ r. ⌜ r ≡ x ⌝ }
 {
     x as u64
@@ -40,7 +40,7 @@ pub fn big2(s: &[u8], at: usize) -> u16
     wide16(s[at]) * 256 + wide16(s[at + 1])
 }
 
-// The number that 4 bytes from a place on spell.
+// The number that 4 bytes from a place on spell. Byte by byte: made of two `big2` it would keep `big8` from being one load.
 pub fn big4(s: &[u8], at: usize) -> u32
     requires { ⌜ at + 4 ≤ length (now s) ⌝ }
     ensures { λ r. ⌜ r ≡ be 4 (now (s .entry)) at ⌝ }
@@ -48,21 +48,13 @@ pub fn big4(s: &[u8], at: usize) -> u32
     ((wide32(s[at]) * 256 + wide32(s[at + 1])) * 256 + wide32(s[at + 2])) * 256 + wide32(s[at + 3])
 }
 
-// The number that 8 bytes from a place on spell: a key, as the order needs it.
+// The number that 8 bytes from a place on spell: a key, as the order needs it. Inlined, it compiles to one load and a byte swap,
+// but not where two branches of a caller each end in such a read: the compiler joins these and reads byte by byte.
 pub fn big8(s: &[u8], at: usize) -> u64
     requires { ⌜ at + 8 ≤ length (now s) ⌝ }
     ensures { λ r. ⌜ r ≡ be 8 (now (s .entry)) at ⌝ }
 {
-    ((((((wide64(s[at]) * 256 + wide64(s[at + 1])) * 256 + wide64(s[at + 2])) * 256
-        + wide64(s[at + 3]))
-        * 256
-        + wide64(s[at + 4]))
-        * 256
-        + wide64(s[at + 5]))
-        * 256
-        + wide64(s[at + 6]))
-        * 256
-        + wide64(s[at + 7])
+    wide_32(big4(s, at)) * 4294967296 + wide_32(big4(s, at + 4))
 }
 
 // Writes the 2 bytes of a number from a place on, and nothing else.
@@ -90,12 +82,6 @@ pub fn put8(out: &mut [u8], at: usize, v: u64)
     requires { ⌜ at + 8 ≤ length (now out) ⌝ }
     ensures { λ _. ⌜ now (out .exit) ≡ put (now (out .entry)) at (bytesOf 8 v) ⌝ }
 {
-    out[at] = (v / 0x100000000000000) as u8;
-    out[at + 1] = (v / 0x1000000000000 % 256) as u8;
-    out[at + 2] = (v / 0x10000000000 % 256) as u8;
-    out[at + 3] = (v / 0x100000000 % 256) as u8;
-    out[at + 4] = (v / 0x1000000 % 256) as u8;
-    out[at + 5] = (v / 0x10000 % 256) as u8;
-    out[at + 6] = (v / 0x100 % 256) as u8;
-    out[at + 7] = (v % 256) as u8;
+    put4(out, at, (v / 4294967296) as u32);
+    put4(out, at + 4, (v % 4294967296) as u32);
 }

@@ -1,6 +1,9 @@
 -- What a tray means, on lists of records: hiding, merging, folding, the sorted view, and packing into segments. No code, no bytes.
--- lists: strictly rising ones, and "same members, same list"
+-- tests and lists: both cases of a test, members and places, strictly rising lists, and "same members, same list"
+pub mod Tests
+pub mod Lists
 pub mod Rising
+pub mod Listed
 -- records, and which newer one hides which older one
 pub mod Records
 pub mod Hiding

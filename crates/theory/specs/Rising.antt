@@ -1,9 +1,11 @@
 -- Lists that rise strictly by a number, and the list functions that everything else is made of. Assumes nothing.
--- The laws are in `Rising/Laws.antt`; the one that the rest stands on is `same-members`.
+-- The laws of rising lists are in `Rising/Laws.antt`, those of the functions in `Kept.antt` and `Inserted.antt`; the one that the rest
+-- stands on is `same-members`.
 pub mod Laws
-pub mod More
+pub mod Kept
+pub mod Inserted
 use Prim.Native.Nat.{ℕ, _<_}
-use mathlib.Core.Bool.{Bool, true, false, cond, _||_}
+use mathlib.Core.Bool.{Bool, false, cond, _||_}
 use mathlib.Core.List.{List, [], _∷_, List·Memᴰ}
 use lib.Dec.{ltb}
 

@@ -1,18 +1,17 @@
 -- The sorted view of a tray (document 01, "The sorted view"): all records of all runs by rising key; equal keys by rising run number,
 -- so newest first. A record in the view stands with its run and its place in the run. Assumes nothing.
-pub mod Lists
 pub mod Entries
 pub mod Laws
 pub mod Old
 pub mod Visible
 mod Cases
-use Prim.Native.Nat.{ℕ, zero, suc, _+_, _*_, _<_}
+use Prim.Native.Nat.{ℕ, suc, _+_, _*_, _<_}
 use mathlib.Core.Path.{_≡_}
 use mathlib.Core.Logic.{_⊎_}
 use mathlib.Core.Bool.{Bool, not, _&&_}
-use mathlib.Core.Option.{Option, some}
+use mathlib.Core.Option.{some}
 use mathlib.Core.List.{List, [], _∷_, _++_}
-use lib.ListN.{take, getElem?}
+use lib.ListN.{take, getD, getElem?}
 use Rattle.theory.specs.Rising.{All, Permuted, any, insertAll}
 use Rattle.theory.specs.Merge.{hidden}
 
@@ -39,9 +38,7 @@ module _ {A : Type 0} where
 
   -- run number i of the tray, or no record
   unfoldable pub runAt : List (List A) → ℕ → List A
-  runAt [] i = []
-  runAt (r ∷ rs) zero = r
-  runAt (r ∷ rs) (suc i) = runAt rs i
+  runAt t i = getD t i []
 
   -- the entry stands in the tray: its run holds its record at its place
   abbrev pub At : List (List A) → Entry A → Type 0

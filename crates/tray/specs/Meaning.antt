@@ -1,25 +1,19 @@
--- The list of runs that a tray's bytes mean, and the bytes of a list of runs (document 01, "The tray"). The laws: `Lists` and `Laws` on
--- the runs, `Write` and `Read` on the two round trips, `Back` on what fits; `Parts` is what they share. Assumes nothing.
+-- The list of runs that a tray's bytes mean, and the bytes of a list of runs (document 01, "The tray"). The laws: `Laws` on the runs,
+-- `Write` and `Read` on the two round trips, `Back` on what fits. Assumes nothing.
 pub mod Back
 mod Cases
 pub mod Laws
-pub mod Lists
-pub mod Parts
 pub mod Read
 pub mod Write
-use Prim.Native.Nat.{ℕ, zero, suc, _+_, _^_, _≤_, _<_}
+use Prim.Native.Nat.{ℕ, _+_, _^_, _≤_, _<_}
 use mathlib.Core.List.{List, [], _∷_, _++_}
 use lib.ListN.{length}
 use Rattle.number.specs.Big.{bytesOf}
-use Rattle.theory.specs.Records.{Record}
 use Rattle.theory.specs.Rising.{All}
+use Rattle.theory.specs.Listed.{listed}
+use Rattle.theory.specs.Records.{Record}
 use Rattle.tray.specs.Frame.{runCount, countOf, runBytes}
 use Rattle.tray.specs.Run.{recordAt}
-
--- f at the n numbers from i on
-unfoldable pub listed : {A : Type 0} → ℕ → ℕ → (ℕ → A) → List A
-listed zero i f = []
-listed (suc n) i f = f i ∷ listed n (suc i) f
 
 -- the records of a run of n
 unfoldable pub runOf : ℕ → List ℕ → List Record

@@ -15,7 +15,7 @@ use lib.ListN.{length, getD, replicate}
 use lib.Dec.{eqb}
 use Rattle.refusal.specs.declared.Refusal.{Refusal}
 use Rattle.refusal.specs.declared.Refusal.the-variants.{IndexFrame, Segment}
-use Rattle.theory.specs.Rising.Laws.{never}
+use Rattle.theory.specs.Tests.{never}
 use Rattle.tray.specs.declared.check.TrayAnswer.{TrayAnswer}
 use Rattle.tray.specs.declared.check.TrayAnswer.the-variants.{Records, Refused as TrayRefused}
 use Rattle.tray.specs.Frame.{runCount, countOf, Framing, Opened}

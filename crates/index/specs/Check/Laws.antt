@@ -13,7 +13,7 @@ use mathlib.Core.Bool.{true, false, cond}
 use mathlib.Core.List.{List, [], _++_, append-nil}
 use lib.ListN.{take}
 use Rattle.refusal.specs.declared.Refusal.the-variants.{IndexFrame, Segment}
-use Rattle.theory.specs.Rising.Laws.{split, cases, clash}
+use Rattle.theory.specs.Tests.{split, cases, clash}
 use Rattle.theory.specs.View.{view}
 use Rattle.tray.specs.declared.check.TrayAnswer.{TrayAnswer}
 use Rattle.tray.specs.declared.check.TrayAnswer.the-variants.{Records, Refused as TrayRefused}

@@ -17,7 +17,7 @@ use Rattle.refusal.specs.declared.Refusal.the-variants.{TrayFrame, KeyOrder, Re
 use Rattle.refusal.specs.Table.{verdictOf}
 use Rattle.theory.specs.Records.{Record}
 use Rattle.theory.specs.Rising.{Mem}
-use Rattle.theory.specs.Rising.Laws.{never}
+use Rattle.theory.specs.Tests.{never}
 use Rattle.theory.specs.View.{view}
 use Rattle.theory.specs.View.Entries.{at-run}
 use Rattle.theory.specs.View.Laws.{view-at}

@@ -16,7 +16,7 @@ use lib.Dec.{leb, eqb}
 use borrow.Author.Tests.{le-leb, lt-leb, eq-eqb, ne-eqb}
 use Rattle.number.specs.Big.{be}
 use Rattle.tray.specs.Frame.{runCount}
-use Rattle.theory.specs.Rising.Laws.{never}
+use Rattle.theory.specs.Tests.{never}
 use Rattle.index.specs.declared.frame.IndexFrame.{IndexFrame}
 use Rattle.index.specs.declared.frame.IndexFrame.the-variants.{Fits, Wrong}
 use Rattle.index.specs.Layout.Laws.{index-fits}

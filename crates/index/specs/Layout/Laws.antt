@@ -14,10 +14,9 @@ use mathlib.Core.List.{List, _∷_}
 use lib.ListN.{length, getD, getElem?, take}
 use lib.Dec.{leb, ltb, eqb}
 use borrow.Author.Tests.{leb-true, le-leb, ltb-true, ltb-false, eqb-true, eq-eqb}
-use Rattle.theory.specs.Rising.Laws.{cases, never}
-use Rattle.tray.specs.Frame.Laws.{and-true, and-left, and-right}
-use Rattle.tray.specs.Meaning.{listed}
-use Rattle.tray.specs.Meaning.Lists.{getElem?-listed, getElem?-listed-past, listed-same}
+use Rattle.theory.specs.Tests.{cases, never, and-true, and-left, and-right}
+use Rattle.theory.specs.Listed.{listed}
+use Rattle.theory.specs.Listed.Laws.{getElem?-listed, getElem?-listed-past, listed-same}
 use Rattle.index.specs.Layout.{sizeOf, headSize, offsetFrom, selectorFrom, segmentFrom, IndexFramed, indexFramed}
 
 pub index-fits : (h : ℕ) (x : List ℕ) → indexFramed h x ≡ true → IndexFramed h x

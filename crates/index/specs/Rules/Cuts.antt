@@ -13,7 +13,8 @@ use mathlib.Core.List.{List, [], _∷_, _++_, append-assoc, List·Memᴰ·head, 
 use lib.ListN.{length}
 use Rattle.theory.specs.Records.{Record, SoundRecord}
 use Rattle.theory.specs.Rising.{Mem, All, Rises, more}
-use Rattle.theory.specs.Rising.Laws.{never, rises-across, rises-left, rises-right}
+use Rattle.theory.specs.Rising.Laws.{rises-across, rises-left, rises-right}
+use Rattle.theory.specs.Tests.{never}
 use Rattle.theory.specs.Merge.{Good}
 use Rattle.theory.specs.View.{rank, view}
 use Rattle.theory.specs.View.Entries.{at-low}

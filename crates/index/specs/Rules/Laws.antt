@@ -17,7 +17,7 @@ use borrow.Author.Tests.{eq-eqb, ne-eqb, eqb-true, eqb-false}
 use Rattle.theory.specs.Records.{Record, live}
 use Rattle.theory.specs.Hiding.{sameKey}
 use Rattle.theory.specs.Rising.{Mem}
-use Rattle.theory.specs.Rising.Laws.{cases}
+use Rattle.theory.specs.Tests.{cases}
 use Rattle.theory.specs.View.{old}
 use Rattle.index.specs.Rules.{placeholder, keyOf, Item, spelled, selectorOf}
 

@@ -15,10 +15,11 @@ use mathlib.Core.Option.{some}
 use mathlib.Core.List.{List, [], _∷_, _++_}
 use lib.ListN.{getElem?, take}
 use Rattle.theory.specs.Records.{Record}
-use Rattle.theory.specs.Rising.Laws.{never}
+use Rattle.theory.specs.Tests.{never}
 use Rattle.tray.specs.Frame.{runCount}
 use Rattle.tray.specs.Check.{Sound}
-use Rattle.tray.specs.Meaning.{listed, runsOf}
+use Rattle.tray.specs.Meaning.{runsOf}
+use Rattle.theory.specs.Listed.{listed}
 use Rattle.index.specs.Layout.{Segment, segmentAt, segmentFrom}
 use Rattle.index.specs.Rules.{Item, Right, Follows, here, next}
 use Rattle.index.specs.Rules.Cuts.{Cut}

@@ -24,7 +24,7 @@ use Rattle.theory.specs.Places.{bump, passed, count, Head}
 use Rattle.theory.specs.Places.Passed.{passed-count, passed-append}
 use Rattle.theory.specs.Places.Rest.{head-lt}
 use Rattle.tray.specs.Frame.{runCount, countOf, runBytes}
-use Rattle.tray.specs.Frame.Laws.{and-true, and-left, and-right}
+use Rattle.theory.specs.Tests.{and-true, and-left, and-right}
 use Rattle.tray.specs.Check.{Sound}
 use Rattle.tray.specs.Meaning.{runsOf}
 use Rattle.tray.specs.Meaning.Laws.{length-runOf, getElem?-runOf, length-runsOf, runAt-runsOf, runs-good}

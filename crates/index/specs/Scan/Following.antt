@@ -14,12 +14,13 @@ use lib.Seq.{append-snoc}
 use lib.Dec.{eqb}
 use borrow.Author.Tests.{eqb-true, eqb-false, eq-eqb, ne-eqb}
 use Rattle.theory.specs.Records.{Record}
-use Rattle.theory.specs.Rising.Laws.{split-at, never}
+use Rattle.theory.specs.Tests.{split-at, never}
 use Rattle.theory.specs.View.Laws.{before→rank, rank→before}
 use Rattle.theory.specs.Places.{Head}
 use Rattle.tray.specs.Frame.{runCount}
 use Rattle.tray.specs.Check.{Sound}
-use Rattle.tray.specs.Meaning.{listed, runsOf}
+use Rattle.tray.specs.Meaning.{runsOf}
+use Rattle.theory.specs.Listed.{listed}
 use Rattle.index.specs.Rules.{placeholder, keyOf, Item}
 use Rattle.index.specs.Rules.Laws.{filled-ended}
 use Rattle.index.specs.Rules.Cuts.{lastOf}

@@ -13,7 +13,7 @@ use lib.Dec.{ltb, eqb}
 use borrow.Author.Tests.{ltb-true, ltb-false, eqb-true, eqb-false}
 use Rattle.theory.specs.Records.{Record}
 use Rattle.theory.specs.Rising.{Mem}
-use Rattle.theory.specs.Rising.Laws.{cases}
+use Rattle.theory.specs.Tests.{cases}
 use Rattle.theory.specs.View.{runAt}
 use Rattle.theory.specs.View.Entries.{at-low}
 use Rattle.theory.specs.Places.{rest, passed, Head, Takes, take-none, take-more}

@@ -19,11 +19,11 @@ use lib.ListN.{getD}
 use lib.Dec.{eqb, ltb}
 use borrow.Author.Tests.{ltb-true, lt-ltb, eqb-true, eq-eqb}
 use Rattle.theory.specs.Records.{Record, live}
-use Rattle.theory.specs.Rising.Laws.{cases}
+use Rattle.theory.specs.Tests.{cases, and-true, and-left, and-right}
 use Rattle.theory.specs.View.{Before}
 use Rattle.tray.specs.Frame.{countOf}
-use Rattle.tray.specs.Frame.Laws.{and-true, and-left, and-right, upto}
-use Rattle.tray.specs.Meaning.{listed}
+use Rattle.tray.specs.Frame.Laws.{upto}
+use Rattle.theory.specs.Listed.{listed}
 use Rattle.index.specs.Layout.{offsetFrom}
 use Rattle.index.specs.Rules.{placeholder, keyOf, Item}
 use Rattle.index.specs.Rules.Laws.{Filled, marks-run}

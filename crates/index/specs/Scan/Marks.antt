@@ -12,7 +12,7 @@ use lib.Seq.{append-snoc}
 use lib.Dec.{eqb}
 use Rattle.theory.specs.Records.{Record, SoundRecord}
 use Rattle.theory.specs.Rising.{Mem}
-use Rattle.theory.specs.Rising.Laws.{cases}
+use Rattle.theory.specs.Tests.{cases}
 use Rattle.theory.specs.Hiding.{sameKey}
 use Rattle.theory.specs.Merge.{Good}
 use Rattle.theory.specs.View.{view, old}

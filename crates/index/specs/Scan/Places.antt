@@ -13,11 +13,11 @@ use lib.ListN.{length, getD, replicate, length-set}
 use lib.Seq.{ext-getD, getD-set-same, getD-set-other}
 use lib.Dec.{eqb}
 use borrow.Author.Tests.{eqb-true, eqb-false, eq-eqb, ne-eqb}
-use Rattle.theory.specs.Rising.Laws.{cases}
+use Rattle.theory.specs.Tests.{cases}
 use Rattle.theory.specs.Places.{count}
 use Rattle.theory.specs.Places.Passed.{count-append}
-use Rattle.tray.specs.Meaning.{listed}
-use Rattle.tray.specs.Meaning.Lists.{length-listed}
+use Rattle.theory.specs.Listed.{listed}
+use Rattle.theory.specs.Listed.Laws.{length-listed}
 use Rattle.index.specs.Layout.Laws.{getD-listed}
 use Rattle.index.specs.Rules.{Item}
 use Rattle.index.specs.Scan.{raise}

@@ -12,7 +12,8 @@ use mathlib.Core.List.{List, [], _∷_, _++_, map, Memᴰ·append-right}
 use lib.ListN.{length, getD}
 use Rattle.theory.specs.Records.{Record, SoundRecord}
 use Rattle.theory.specs.Rising.{Mem, Rises}
-use Rattle.theory.specs.Rising.Laws.{never, rises-left}
+use Rattle.theory.specs.Rising.Laws.{rises-left}
+use Rattle.theory.specs.Tests.{never}
 use Rattle.theory.specs.Merge.{Good}
 use Rattle.theory.specs.View.{rank}
 use Rattle.theory.specs.View.Entries.{at-low}

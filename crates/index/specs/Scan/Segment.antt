@@ -15,12 +15,12 @@ use lib.Seq.{append-snoc}
 use lib.Dec.{eqb}
 use borrow.Author.Tests.{eqb-true, eq-eqb}
 use Rattle.theory.specs.Records.{Record}
-use Rattle.theory.specs.Rising.Laws.{never}
+use Rattle.theory.specs.Tests.{never, and-left, and-right}
 use Rattle.theory.specs.Places.{rest}
 use Rattle.tray.specs.Frame.{runCount}
-use Rattle.tray.specs.Frame.Laws.{and-left, and-right}
 use Rattle.tray.specs.Check.{Sound}
-use Rattle.tray.specs.Meaning.{listed, runsOf}
+use Rattle.tray.specs.Meaning.{runsOf}
+use Rattle.theory.specs.Listed.{listed}
 use Rattle.index.specs.Layout.{Segment, headSize, anchorFrom, segmentFrom}
 use Rattle.index.specs.Layout.Laws.{selectors-listed}
 use Rattle.index.specs.Rules.{keyOf, Item, OffsetsRight}

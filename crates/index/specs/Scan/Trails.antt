@@ -13,7 +13,7 @@ use lib.Dec.{eqb}
 use borrow.Author.Tests.{eqb-true, eqb-false}
 use Rattle.theory.specs.Records.{Record}
 use Rattle.theory.specs.Rising.{All, Rises, none, more}
-use Rattle.theory.specs.Rising.Laws.{cases, never}
+use Rattle.theory.specs.Tests.{cases, never}
 use Rattle.theory.specs.View.{rank}
 use Rattle.theory.specs.Places.{bump, Head, Takes, take-none, take-more}
 use Rattle.index.specs.Rules.{placeholder, keyOf, Item, spelled}

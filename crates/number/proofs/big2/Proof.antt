@@ -1,7 +1,7 @@
 -- `number::big2` meets its contract: each byte is below 256, so no step wraps; the sum is `be 2` written out. Assumes nothing.
 use native.Mathlib.Omega.{arith}
 use Rattle.number.specs.Big.{be}
-use Rattle.number.proofs.Known.{eight}
+use Rattle.number.proofs.Known.{four}
 use borrow.Author.Needs.{needs}
 use Rattle.number.proofs.big2.Statement.{statement}
 use Rattle.number.proofs.big2.Tie as tie
@@ -15,7 +15,7 @@ wide16-requires c κs = search needs
 mul-result : tie.Need-mul-result
 mul-result c =
     let at-start = c .before .before in
-    let near = eight (at-start .before .args .s .now) (at-start .before .args .at) (at-start .shared-slice-known .given) in
+    let near = four (at-start .before .args .s .now) (at-start .before .args .at) (at-start .shared-slice-known .given) in
     omega arith
 
 add-wide16 : tie.Need-add-wide16
@@ -30,14 +30,14 @@ wide16-requires-2 c κs = search needs
 add-result : tie.Need-add-result
 add-result c =
     let at-start = c .before .before .before .before in
-    let near = eight (at-start .before .args .s .now) (at-start .before .args .at) (at-start .shared-slice-known .given) in
+    let near = four (at-start .before .args .s .now) (at-start .before .args .at) (at-start .shared-slice-known .given) in
     omega arith
 
 returns : tie.Need-returns
 unfolding be
 returns c =
     let at-start = c .before .before .before .before in
-    let near = eight (at-start .before .args .s .now) (at-start .before .args .at) (at-start .shared-slice-known .given) in
+    let near = four (at-start .before .args .s .now) (at-start .before .args .at) (at-start .shared-slice-known .given) in
     omega arith
 
 pub big2-spec : {M : Type 1} → statement M

@@ -1,7 +1,7 @@
 -- `number::big4` meets its contract: each byte is below 256, so no step wraps; the sum is `be 4` written out. Assumes nothing.
 use native.Mathlib.Omega.{arith}
 use Rattle.number.specs.Big.{be}
-use Rattle.number.proofs.Known.{eight}
+use Rattle.number.proofs.Known.{four}
 use borrow.Author.Needs.{needs}
 use Rattle.number.proofs.big4.Statement.{statement}
 use Rattle.number.proofs.big4.Tie as tie
@@ -15,7 +15,7 @@ wide32-requires c κs = search needs
 mul-result : tie.Need-mul-result
 mul-result c =
     let at-start = c .before .before in
-    let near = eight (at-start .before .args .s .now) (at-start .before .args .at) (at-start .shared-slice-known .given) in
+    let near = four (at-start .before .args .s .now) (at-start .before .args .at) (at-start .shared-slice-known .given) in
     omega arith
 
 add-wide32 : tie.Need-add-wide32
@@ -30,13 +30,13 @@ wide32-requires-2 c κs = search needs
 add-result : tie.Need-add-result
 add-result c =
     let at-start = c .before .before .before .before in
-    let near = eight (at-start .before .args .s .now) (at-start .before .args .at) (at-start .shared-slice-known .given) in
+    let near = four (at-start .before .args .s .now) (at-start .before .args .at) (at-start .shared-slice-known .given) in
     omega arith
 
 mul-result-2 : tie.Need-mul-result-2
 mul-result-2 c =
     let at-start = c .before .before .before .before in
-    let near = eight (at-start .before .args .s .now) (at-start .before .args .at) (at-start .shared-slice-known .given) in
+    let near = four (at-start .before .args .s .now) (at-start .before .args .at) (at-start .shared-slice-known .given) in
     omega arith
 
 add-wide32-2 : tie.Need-add-wide32-2
@@ -51,13 +51,13 @@ wide32-requires-3 c κs = search needs
 add-result-2 : tie.Need-add-result-2
 add-result-2 c =
     let at-start = c .before .before .before .before .before .before in
-    let near = eight (at-start .before .args .s .now) (at-start .before .args .at) (at-start .shared-slice-known .given) in
+    let near = four (at-start .before .args .s .now) (at-start .before .args .at) (at-start .shared-slice-known .given) in
     omega arith
 
 mul-result-3 : tie.Need-mul-result-3
 mul-result-3 c =
     let at-start = c .before .before .before .before .before .before in
-    let near = eight (at-start .before .args .s .now) (at-start .before .args .at) (at-start .shared-slice-known .given) in
+    let near = four (at-start .before .args .s .now) (at-start .before .args .at) (at-start .shared-slice-known .given) in
     omega arith
 
 add-wide32-3 : tie.Need-add-wide32-3
@@ -72,14 +72,14 @@ wide32-requires-4 c κs = search needs
 add-result-3 : tie.Need-add-result-3
 add-result-3 c =
     let at-start = c .before .before .before .before .before .before .before .before in
-    let near = eight (at-start .before .args .s .now) (at-start .before .args .at) (at-start .shared-slice-known .given) in
+    let near = four (at-start .before .args .s .now) (at-start .before .args .at) (at-start .shared-slice-known .given) in
     omega arith
 
 returns : tie.Need-returns
 unfolding be
 returns c =
     let at-start = c .before .before .before .before .before .before .before .before in
-    let near = eight (at-start .before .args .s .now) (at-start .before .args .at) (at-start .shared-slice-known .given) in
+    let near = four (at-start .before .args .s .now) (at-start .before .args .at) (at-start .shared-slice-known .given) in
     omega arith
 
 pub big4-spec : {M : Type 1} → statement M

@@ -1,210 +1,45 @@
--- `number::big8` meets its contract: each byte is below 256, so no step wraps; the sum is `be 8` written out. Assumes nothing.
+-- `number::big8` meets its contract: the first half counts 256 to the power 4, which is `be-add`. Assumes nothing.
 use native.Mathlib.Omega.{arith}
-use Rattle.number.specs.Big.{be}
-use Rattle.number.proofs.Known.{eight}
+use Rattle.number.specs.Big.Laws.{be-add}
 use borrow.Author.Needs.{needs}
 use Rattle.number.proofs.big8.Statement.{statement}
 use Rattle.number.proofs.big8.Tie as tie
 
-shared-slice-read-wide64 : tie.Need-shared-slice-read-wide64
-shared-slice-read-wide64 c = search needs
+big4-requires : tie.Need-big4-requires
+big4-requires c κs = search needs
 
-wide64-requires : tie.Need-wide64-requires
-wide64-requires c κs = search needs
+wide-32-requires : tie.Need-wide-32-requires
+wide-32-requires c κs = search needs
 
 mul-result : tie.Need-mul-result
-mul-result c =
-    let at-start = c .before .before in
-    let near = eight (at-start .before .args .s .now) (at-start .before .args .at) (at-start .shared-slice-known .given) in
-    omega arith
+mul-result c = search needs
 
-add-wide64 : tie.Need-add-wide64
-add-wide64 c = search needs
+add-big4 : tie.Need-add-big4
+add-big4 c = search needs
 
-shared-slice-read-wide64-2 : tie.Need-shared-slice-read-wide64-2
-shared-slice-read-wide64-2 c = search needs
+big4-requires-2 : tie.Need-big4-requires-2
+big4-requires-2 c κs = search needs
 
-wide64-requires-2 : tie.Need-wide64-requires-2
-wide64-requires-2 c κs = search needs
+wide-32-requires-2 : tie.Need-wide-32-requires-2
+wide-32-requires-2 c κs = search needs
 
 add-result : tie.Need-add-result
-add-result c =
-    let at-start = c .before .before .before .before in
-    let near = eight (at-start .before .args .s .now) (at-start .before .args .at) (at-start .shared-slice-known .given) in
-    omega arith
-
-mul-result-2 : tie.Need-mul-result-2
-mul-result-2 c =
-    let at-start = c .before .before .before .before in
-    let near = eight (at-start .before .args .s .now) (at-start .before .args .at) (at-start .shared-slice-known .given) in
-    omega arith
-
-add-wide64-2 : tie.Need-add-wide64-2
-add-wide64-2 c = search needs
-
-shared-slice-read-wide64-3 : tie.Need-shared-slice-read-wide64-3
-shared-slice-read-wide64-3 c = search needs
-
-wide64-requires-3 : tie.Need-wide64-requires-3
-wide64-requires-3 c κs = search needs
-
-add-result-2 : tie.Need-add-result-2
-add-result-2 c =
-    let at-start = c .before .before .before .before .before .before in
-    let near = eight (at-start .before .args .s .now) (at-start .before .args .at) (at-start .shared-slice-known .given) in
-    omega arith
-
-mul-result-3 : tie.Need-mul-result-3
-mul-result-3 c =
-    let at-start = c .before .before .before .before .before .before in
-    let near = eight (at-start .before .args .s .now) (at-start .before .args .at) (at-start .shared-slice-known .given) in
-    omega arith
-
-add-wide64-3 : tie.Need-add-wide64-3
-add-wide64-3 c = search needs
-
-shared-slice-read-wide64-4 : tie.Need-shared-slice-read-wide64-4
-shared-slice-read-wide64-4 c = search needs
-
-wide64-requires-4 : tie.Need-wide64-requires-4
-wide64-requires-4 c κs = search needs
-
-add-result-3 : tie.Need-add-result-3
-add-result-3 c =
-    let at-start = c .before .before .before .before .before .before .before .before in
-    let near = eight (at-start .before .args .s .now) (at-start .before .args .at) (at-start .shared-slice-known .given) in
-    omega arith
-
-mul-result-4 : tie.Need-mul-result-4
-mul-result-4 c =
-    let at-start = c .before .before .before .before .before .before .before .before in
-    let near = eight (at-start .before .args .s .now) (at-start .before .args .at) (at-start .shared-slice-known .given) in
-    omega arith
-
-add-wide64-4 : tie.Need-add-wide64-4
-add-wide64-4 c = search needs
-
-shared-slice-read-wide64-5 : tie.Need-shared-slice-read-wide64-5
-shared-slice-read-wide64-5 c = search needs
-
-wide64-requires-5 : tie.Need-wide64-requires-5
-wide64-requires-5 c κs = search needs
-
-add-result-4 : tie.Need-add-result-4
-add-result-4 c =
-    let at-start = c .before .before .before .before .before .before .before .before .before .before in
-    let near = eight (at-start .before .args .s .now) (at-start .before .args .at) (at-start .shared-slice-known .given) in
-    omega arith
-
-mul-result-5 : tie.Need-mul-result-5
-mul-result-5 c =
-    let at-start = c .before .before .before .before .before .before .before .before .before .before in
-    let near = eight (at-start .before .args .s .now) (at-start .before .args .at) (at-start .shared-slice-known .given) in
-    omega arith
-
-add-wide64-5 : tie.Need-add-wide64-5
-add-wide64-5 c = search needs
-
-shared-slice-read-wide64-6 : tie.Need-shared-slice-read-wide64-6
-shared-slice-read-wide64-6 c = search needs
-
-wide64-requires-6 : tie.Need-wide64-requires-6
-wide64-requires-6 c κs = search needs
-
-add-result-5 : tie.Need-add-result-5
-add-result-5 c =
-    let at-start = c .before .before .before .before .before .before .before .before .before .before .before .before in
-    let near = eight (at-start .before .args .s .now) (at-start .before .args .at) (at-start .shared-slice-known .given) in
-    omega arith
-
-mul-result-6 : tie.Need-mul-result-6
-mul-result-6 c =
-    let at-start = c .before .before .before .before .before .before .before .before .before .before .before .before in
-    let near = eight (at-start .before .args .s .now) (at-start .before .args .at) (at-start .shared-slice-known .given) in
-    omega arith
-
-add-wide64-6 : tie.Need-add-wide64-6
-add-wide64-6 c = search needs
-
-shared-slice-read-wide64-7 : tie.Need-shared-slice-read-wide64-7
-shared-slice-read-wide64-7 c = search needs
-
-wide64-requires-7 : tie.Need-wide64-requires-7
-wide64-requires-7 c κs = search needs
-
-add-result-6 : tie.Need-add-result-6
-add-result-6 c =
-    let at-start = c .before .before .before .before .before .before .before .before .before .before .before .before .before .before in
-    let near = eight (at-start .before .args .s .now) (at-start .before .args .at) (at-start .shared-slice-known .given) in
-    omega arith
-
-mul-result-7 : tie.Need-mul-result-7
-mul-result-7 c =
-    let at-start = c .before .before .before .before .before .before .before .before .before .before .before .before .before .before in
-    let near = eight (at-start .before .args .s .now) (at-start .before .args .at) (at-start .shared-slice-known .given) in
-    omega arith
-
-add-wide64-7 : tie.Need-add-wide64-7
-add-wide64-7 c = search needs
-
-shared-slice-read-wide64-8 : tie.Need-shared-slice-read-wide64-8
-shared-slice-read-wide64-8 c = search needs
-
-wide64-requires-8 : tie.Need-wide64-requires-8
-wide64-requires-8 c κs = search needs
-
-add-result-7 : tie.Need-add-result-7
-add-result-7 c =
-    let at-start = c .before .before .before .before .before .before .before .before .before .before .before .before .before .before .before .before in
-    let near = eight (at-start .before .args .s .now) (at-start .before .args .at) (at-start .shared-slice-known .given) in
-    omega arith
+add-result c = search needs
 
 returns : tie.Need-returns
-unfolding be
 returns c =
-    let at-start = c .before .before .before .before .before .before .before .before .before .before .before .before .before .before .before .before in
-    let near = eight (at-start .before .args .s .now) (at-start .before .args .at) (at-start .shared-slice-known .given) in
-    omega arith
+    let args = c .before .before .before .before .before .args in
+    omega (arith, be-add 4 4 (args .s .now) (args .at))
 
 pub big8-spec : {M : Type 1} → statement M
 big8-spec =
     tie.close
     (tie.spec
-    shared-slice-read-wide64
-    wide64-requires
+    big4-requires
+    wide-32-requires
     mul-result
-    add-wide64
-    shared-slice-read-wide64-2
-    wide64-requires-2
+    add-big4
+    big4-requires-2
+    wide-32-requires-2
     add-result
-    mul-result-2
-    add-wide64-2
-    shared-slice-read-wide64-3
-    wide64-requires-3
-    add-result-2
-    mul-result-3
-    add-wide64-3
-    shared-slice-read-wide64-4
-    wide64-requires-4
-    add-result-3
-    mul-result-4
-    add-wide64-4
-    shared-slice-read-wide64-5
-    wide64-requires-5
-    add-result-4
-    mul-result-5
-    add-wide64-5
-    shared-slice-read-wide64-6
-    wide64-requires-6
-    add-result-5
-    mul-result-6
-    add-wide64-6
-    shared-slice-read-wide64-7
-    wide64-requires-7
-    add-result-6
-    mul-result-7
-    add-wide64-7
-    shared-slice-read-wide64-8
-    wide64-requires-8
-    add-result-7
     returns)

@@ -1,114 +1,37 @@
--- `number::put8` meets its contract: a store keeps the length, and the eight stores leave `put` of the bytes. Assumes nothing.
+-- `number::put8` meets its contract: `put4` writes each half, the second right behind the first, which is `put-halves`. Assumes nothing.
+use mathlib.Core.Path.{_∙_}
 use native.Mathlib.Omega.{arith}
-use native.Mathlib.Numerals.{towards-suc}
-use lib.ListN.{length-set}
-use Rattle.number.proofs.Stored.{stored, bytes-8}
+use Rattle.number.specs.Big.Writes.{put-halves}
 use borrow.Author.Needs.{needs}
 use Rattle.number.proofs.put8.Statement.{statement}
 use Rattle.number.proofs.put8.Tie as tie
 
-cast-out : tie.Need-cast-out
-cast-out c = search needs
+cast-put4 : tie.Need-cast-put4
+cast-put4 c = search needs
 
-slice-write-out : tie.Need-slice-write-out
-slice-write-out c = search needs
+put4-requires : tie.Need-put4-requires
+put4-requires c κs = search needs
 
-cast-out-2 : tie.Need-cast-out-2
-cast-out-2 c = search needs
+add-put4 : tie.Need-add-put4
+add-put4 c = search needs
 
-add-out : tie.Need-add-out
-add-out c = search needs
+cast-put4-2 : tie.Need-cast-put4-2
+cast-put4-2 c = search needs
 
-slice-write-out-2 : tie.Need-slice-write-out-2
-slice-write-out-2 c = simp length-set (omega arith)
-
-cast-out-3 : tie.Need-cast-out-3
-cast-out-3 c = search needs
-
-add-out-2 : tie.Need-add-out-2
-add-out-2 c = search needs
-
-slice-write-out-3 : tie.Need-slice-write-out-3
-slice-write-out-3 c = simp length-set (omega arith)
-
-cast-out-4 : tie.Need-cast-out-4
-cast-out-4 c = search needs
-
-add-out-3 : tie.Need-add-out-3
-add-out-3 c = search needs
-
-slice-write-out-4 : tie.Need-slice-write-out-4
-slice-write-out-4 c = simp length-set (omega arith)
-
-cast-out-5 : tie.Need-cast-out-5
-cast-out-5 c = search needs
-
-add-out-4 : tie.Need-add-out-4
-add-out-4 c = search needs
-
-slice-write-out-5 : tie.Need-slice-write-out-5
-slice-write-out-5 c = simp length-set (omega arith)
-
-cast-out-6 : tie.Need-cast-out-6
-cast-out-6 c = search needs
-
-add-out-5 : tie.Need-add-out-5
-add-out-5 c = search needs
-
-slice-write-out-6 : tie.Need-slice-write-out-6
-slice-write-out-6 c = simp length-set (omega arith)
-
-cast-out-7 : tie.Need-cast-out-7
-cast-out-7 c = search needs
-
-add-out-6 : tie.Need-add-out-6
-add-out-6 c = search needs
-
-slice-write-out-7 : tie.Need-slice-write-out-7
-slice-write-out-7 c = simp length-set (omega arith)
-
-cast-out-8 : tie.Need-cast-out-8
-cast-out-8 c = search needs
-
-add-out-7 : tie.Need-add-out-7
-add-out-7 c = search needs
-
-slice-write-out-8 : tie.Need-slice-write-out-8
-slice-write-out-8 c = simp length-set (omega arith)
+put4-requires-2 : tie.Need-put4-requires-2
+put4-requires-2 c κs = search needs
 
 same-length : tie.Need-same-length
-same-length c = simp length-set
+same-length c = search needs
 
 returns : tie.Need-returns
 returns c =
-    simp towards-suc (stored (c .args .out .now) (c .args .at) 8 (c .args .v) (bytes-8 (c .args .v) (omega arith)) (c .pre))
+    let at-second = c .before .before in
+    let at-first = at-second .before .before .before .before in
+    let args = at-first .before .before .before .args in
+    at-second .put42 .ensures ∙ rw (at-first .put4 .ensures) (put-halves 4 4 (args .v) (args .out .now) (args .at) (omega arith))
 
 pub put8-spec : {M : Type 1} → statement M
 put8-spec =
     tie.close
-    (tie.spec
-    cast-out
-    slice-write-out
-    cast-out-2
-    add-out
-    slice-write-out-2
-    cast-out-3
-    add-out-2
-    slice-write-out-3
-    cast-out-4
-    add-out-3
-    slice-write-out-4
-    cast-out-5
-    add-out-4
-    slice-write-out-5
-    cast-out-6
-    add-out-5
-    slice-write-out-6
-    cast-out-7
-    add-out-6
-    slice-write-out-7
-    cast-out-8
-    add-out-7
-    slice-write-out-8
-    same-length
-    returns)
+    (tie.spec cast-put4 put4-requires add-put4 cast-put4-2 put4-requires-2 same-length returns)

@@ -1,20 +1,21 @@
--- Laws of `be` and `bytesOf`, over the width. Beside the worked cases and the proofs of the leaves only this file looks inside them.
+-- Laws of `be` and `bytesOf`, over the width, and of `Bytes`. Beside the worked cases and the proofs of the leaves only this file looks inside them.
 --     be-same              two lists that agree from their places on spell the same number
 --     be-drop, be-take, be-part             the number in a part of a list
 --     be-append-left, be-append-right       the number in two lists put together
 --     be-add               the first bytes count 256 to the power of how many follow them
 --     be-front, be-cons    the first byte counts 256 to the power of how many follow it
 --     be-bound             a number of w bytes is below 256 to the power w
---     be-2, be-4, be-8     the same, as numerals
 --     bytesOf-cons         the first byte of a number's bytes, and the others
 --     bytesOf-high         where a number has no more than w + 1 bytes, its first is a quotient
+--     bytesOf-add          the bytes of a number in two parts
 --     length-bytesOf, bytes-bytesOf     they are w bytes
 --     be-bytesOf           a number's bytes spell the number
 --     bytesOf-be           the bytes of the number that bytes spell are these bytes
 --     bytesOf-whole        the same for a whole list
+--     bytes-take, bytes-drop, bytes-cons, bytes-append     parts and joins of bytes are bytes
 -- Assumes nothing.
-use mathlib.Core.Path.{_≡_, refl, sym, ap, ap₂, _∙_}
-use mathlib.Core.List.{List, [], _∷_, _++_}
+use mathlib.Core.Path.{_≡_, refl, ap, ap₂, _∙_}
+use mathlib.Core.List.{List, [], _∷_, _++_, append-nil, append-assoc}
 use Prim.Native.Nat.{ℕ, zero, suc, _+_, _*_, _/_, _%_, _^_, _≤_, _<_}
 use native.Mathlib.Nat.{add-assoc, add-zero, zero-add, add-suc, suc-add, mul-one, mul-assoc, pow-suc, pow-succ', le-step, lt-suc-self, one-le-pow, mod-eq-of-lt, div-one, div-lt-iff-lt-mul, div-div-eq-div-mul}
 use native.Mathlib.Numerals.{one-add}
@@ -74,16 +75,6 @@ unfolding be
 be-bound zero s p h = omega arith
 be-bound (suc w) s p h = rw pow-suc (omega (arith, be-bound w s p h, h (p + w)))
 
--- the bounds of the widths that are read
-pub be-2 : (s : List ℕ) (p : ℕ) → Bytes s → be 2 s p < 65536
-be-2 = be-bound 2
-
-pub be-4 : (s : List ℕ) (p : ℕ) → Bytes s → be 4 s p < 4294967296
-be-4 = be-bound 4
-
-pub be-8 : (s : List ℕ) (p : ℕ) → Bytes s → be 8 s p < 18446744073709551616
-be-8 = be-bound 8
-
 -- the first byte of a number's bytes, and the others
 pub bytesOf-cons : (w n : ℕ) → bytesOf (suc w) n ≡ n / 256 ^ w % 256 ∷ bytesOf w n
 unfolding bytesOf
@@ -95,6 +86,16 @@ pub bytesOf-high : (w n : ℕ) → n < 256 ^ suc w → bytesOf (suc w) n ≡ n /
 bytesOf-high w n h =
     let q : n / 256 ^ w < 256 = div-lt-iff-lt-mul (one-le-pow w 256 (omega arith)) .1 (rw pow-succ' at h) in
     bytesOf-cons w n ∙ ap (λ (x : ℕ). x ∷ bytesOf w n) (mod-eq-of-lt q)
+
+-- the bytes of a number in two parts
+pub bytesOf-add : (w v h l : ℕ) → l < 256 ^ v → bytesOf (w + v) (h * 256 ^ v + l) ≡ bytesOf w h ++ bytesOf v l
+unfolding bytesOf
+bytesOf-add w zero h l b = let z : l ≡ 0 = omega arith in rw z (simp (mul-one, add-zero, append-nil))
+bytesOf-add w (suc v) h l b =
+    let high : (h * 256 ^ suc v + l) / 256 ≡ h * 256 ^ v + l / 256 = simp (pow-suc, ← mul-assoc) (omega arith) in
+    let low : (h * 256 ^ suc v + l) % 256 ≡ l % 256 = simp (pow-suc, ← mul-assoc) (omega arith) in
+    let q : l / 256 < 256 ^ v = omega (arith, rw pow-suc at b) in
+    rw (add-suc, high, low, bytesOf-add w v h (l / 256) q) (append-assoc (bytesOf w h) (bytesOf v (l / 256)) (l % 256 ∷ []))
 
 -- they are as many as the width
 pub length-bytesOf : (w n : ℕ) → length (bytesOf w n) ≡ w
@@ -139,3 +140,23 @@ bytesOf-be (suc w) s p b h =
 -- a whole list of bytes is the bytes of its number
 pub bytesOf-whole : (w : ℕ) {xs : List ℕ} → Bytes xs → length xs ≡ w → bytesOf w (be w xs 0) ≡ xs
 bytesOf-whole w {xs} b l = bytesOf-be w xs 0 b (omega arith) ∙ take-all w xs (omega arith)
+
+-- a part of bytes is bytes
+pub bytes-take : (n : ℕ) (s : List ℕ) → Bytes s → Bytes (take n s)
+bytes-take zero s b i = omega arith
+bytes-take (suc n) [] b i = b i
+bytes-take (suc n) (x ∷ s) b zero = b 0
+bytes-take (suc n) (x ∷ s) b (suc i) = bytes-take n s (λ j. b (suc j)) i
+
+pub bytes-drop : (a : ℕ) (s : List ℕ) → Bytes s → Bytes (drop a s)
+bytes-drop a s b i = rw getD-drop (b (a + i))
+
+-- and so are bytes put together
+pub bytes-cons : (x : ℕ) (s : List ℕ) → x < 256 → Bytes s → Bytes (x ∷ s)
+bytes-cons x s h b zero = h
+bytes-cons x s h b (suc i) = b i
+
+pub bytes-append : (s t : List ℕ) → Bytes s → Bytes t → Bytes (s ++ t)
+bytes-append [] t b c i = c i
+bytes-append (x ∷ s) t b c zero = b 0
+bytes-append (x ∷ s) t b c (suc i) = bytes-append s t (λ j. b (suc j)) c i

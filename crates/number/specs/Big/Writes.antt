@@ -3,19 +3,20 @@
 --     length-put           the length stays
 --     take-put, drop-put   what stands up to the end of what was written, and behind it
 --     put-put              one write right behind another is one write
+--     put-halves           so a number may be written in two parts
 --     be-put-in            a number that is read out of what was written
 --     be-put-same          a number whose bytes were written is read back
 --     be-put-before, be-put-after     a number that lies before or behind what was written is as it was
 -- Assumes nothing.
 use mathlib.Core.Path.{_≡_, sym, ap, _∙_}
 use mathlib.Core.List.{List, _++_, append-assoc}
-use Prim.Native.Nat.{ℕ, _+_, _-_, _^_, _≤_, _<_}
-use native.Mathlib.Nat.{add-zero, add-assoc, add-sub-of-le}
+use Prim.Native.Nat.{ℕ, _+_, _-_, _*_, _/_, _%_, _^_, _≤_, _<_}
+use native.Mathlib.Nat.{add-zero, add-assoc, add-sub-of-le, mod-lt, one-le-pow, div-add-mod'}
 use native.Mathlib.Omega.{arith}
 use lib.ListN.{length, take, drop, length-append}
 use lib.Seq.{length-take-le, sets, sets-eq, length-sets, take-at, drop-at, drop-drop}
 use Rattle.number.specs.Big.{be, bytesOf, put}
-use Rattle.number.specs.Big.Laws.{be-take, be-drop, be-append-left, be-append-right, length-bytesOf, be-bytesOf}
+use Rattle.number.specs.Big.Laws.{be-take, be-drop, be-append-left, be-append-right, bytesOf-add, length-bytesOf, be-bytesOf}
 
 -- what one store a byte leaves
 pub put-sets : (s : List ℕ) (p : ℕ) (ys : List ℕ) → p + length ys ≤ length s → sets s p ys ≡ put s p ys
@@ -52,6 +53,17 @@ put-put s p xs ys h =
     put-front (put s p xs) (p + length xs) ys
     ∙ rw (take-put s p xs h, ← drop-drop (length ys) (p + length xs) (put s p xs), drop-put s p xs h, drop-drop)
     (simp (put-front, append-assoc, length-append, add-assoc))
+
+-- a number written in two parts, the higher one first
+pub put-halves : (w v n : ℕ) (s : List ℕ) (p : ℕ) → p ≤ length s
+    → put (put s p (bytesOf w (n / 256 ^ v))) (p + w) (bytesOf v (n % 256 ^ v)) ≡ put s p (bytesOf (w + v) n)
+put-halves w v n s p h =
+    let high = bytesOf w (n / 256 ^ v) in
+    let low = bytesOf v (n % 256 ^ v) in
+    let long : length high ≡ w = length-bytesOf w (n / 256 ^ v) in
+    let all : bytesOf (w + v) (n / 256 ^ v * 256 ^ v + n % 256 ^ v) ≡ high ++ low =
+    bytesOf-add w v (n / 256 ^ v) (n % 256 ^ v) (mod-lt n (one-le-pow v 256 (omega arith))) in
+    ap (λ (k : ℕ). put (put s p high) (p + k) low) (sym long) ∙ put-put s p high low h ∙ ap (put s p) (sym (rw div-add-mod' at all))
 
 -- a number that is read out of what was written
 pub be-put-in : (w : ℕ) (s : List ℕ) (p : ℕ) (ys : List ℕ) (q : ℕ)

@@ -16,12 +16,13 @@ use mathlib.Core.Logic.{⊎-elim}
 use Prim.Native.Nat.{ℕ, suc, _+_, _-_, _≤_, _<_}
 use native.Mathlib.Omega.{arith}
 use mathlib.Core.Bool.{Bool}
-use mathlib.Core.List.{List, [], _∷_, _++_, append-nil, List·Memᴰ·head, List·Memᴰ·cases-cons, List·Memᴰ·append-cases, Memᴰ·append-left, Memᴰ·append-right}
+use mathlib.Core.List.{List, [], _∷_, _++_, append-nil, List·Memᴰ·cases-cons, List·Memᴰ·append-cases, Memᴰ·append-left, Memᴰ·append-right}
 use lib.ListN.{length, take, getD, drop, take-append-drop, length-append, length-take, length-drop}
-use lib.Seq.{drop-cons, split-at, take-append-seam, drop-append-seam, drop-append-add, drop-drop}
+use lib.Seq.{drop-cons, split-at, take-append-seam, drop-append-seam, drop-append-add}
 use borrow.Author.Tests.{eqb-true}
+use Rattle.theory.specs.Lists.{here, part-on}
 use Rattle.theory.specs.Rising.{Mem, keep}
-use Rattle.theory.specs.Rising.More.{rises-length}
+use Rattle.theory.specs.Rising.Laws.{rises-length}
 use Rattle.theory.specs.Hiding.{Rule, sameKey}
 use Rattle.theory.specs.Hiding.Laws.{sameKey-rule}
 use Rattle.theory.specs.Merge.{merged, fold, Chain, done, step, Folds, folds, Good}
@@ -31,8 +32,7 @@ use Rattle.theory.specs.Merge.Laws.{merged-good, merged-one, merged-fron
 pub fold-parts : {A : Type 0} (a b : ℕ) (t : List A) → a ≤ b → t ≡ take a t ++ (take (suc b - a) (drop a t) ++ drop (suc b) t)
 fold-parts a b t l =
     let e : a + (suc b - a) ≡ suc b = omega arith in
-    let after : drop (suc b - a) (drop a t) ≡ drop (suc b) t = drop-drop (suc b - a) a t ∙ ap (λ n. drop n t) e in
-    sym (rw (← after, take-append-drop, take-append-drop))
+    sym (ap (λ u. take a t ++ u) (rw e at (part-on a (suc b - a) t)) ∙ take-append-drop a t)
 
 module _ {A : Type 0} (key : A → ℕ) (hides : A → A → Bool) where
   pub fold-at : (s m u : List (List A)) (b : ℕ) → suc b ≡ length s + length m
@@ -87,7 +87,7 @@ module _ {A : Type 0} (key : A → ℕ) (hides : A → A → Bool) where
     fold-same {t} {a} g l =
         let one : suc a - a ≡ 1 = omega arith in
         let parts : t ≡ take a t ++ (getD t a [] ∷ drop (suc a) t) = split-at t a [] l in
-        let m : Mem (getD t a []) t = subst (Mem (getD t a [])) (sym parts) (Memᴰ·append-right (take a t) (List·Memᴰ·head refl)) in
+        let m : Mem (getD t a []) t = subst (Mem (getD t a [])) (sym parts) (Memᴰ·append-right (take a t) here) in
         rw (one, drop-cons t a [] l, merged-one key hides R (g _ m)) (sym parts)
 
     pub chain-good : {t u : List (List A)} → Good Ok key t → Chain key hides t u → Good Ok key u
@@ -103,7 +103,7 @@ module _ {A : Type 0} (key : A → ℕ) (hides : A → A → Bool) where
     chain-visible live g c = ap (keep live) (chain-merged g c)
 
     pub chain-ends : {t : List (List A)} {r : List A} → Good Ok key t → Chain key hides t (r ∷ []) → r ≡ merged key hides t
-    chain-ends {t} {r} g c = sym (merged-one key hides R (chain-good g c r (List·Memᴰ·head refl))) ∙ chain-merged g c
+    chain-ends {t} {r} g c = sym (merged-one key hides R (chain-good g c r here)) ∙ chain-merged g c
 
     pub chains-meet : {t : List (List A)} {r q : List A} → Good Ok key t → Chain key hides t (r ∷ []) → Chain key hides t (q ∷ [])
         → r ≡ q
@@ -130,7 +130,7 @@ module _ {A : Type 0} (key : A → ℕ) {Ok : A → Type 0} where
   pub fold-length : {t : List (List A)} {a b : ℕ} → Good Ok key t → a ≤ b → b < length t
       → length (merged key (sameKey key) (take (suc b - a) (drop a t))) ≤ length (merged key (sameKey key) t)
   unfolding fold
-  fold-length {t} {a} {b} g l h = chain-length g (step a b l h done) (Memᴰ·append-right (take a t) (List·Memᴰ·head refl))
+  fold-length {t} {a} {b} g l h = chain-length g (step a b l h done) (Memᴰ·append-right (take a t) here)
 
   pub chain-fold-length : {t u : List (List A)} {a b : ℕ} → Good Ok key t → Chain key (sameKey key) t u → a ≤ b → b < length u
       → length (merged key (sameKey key) (take (suc b - a) (drop a u))) ≤ length (merged key (sameKey key) t)

@@ -1,4 +1,5 @@
--- Laws of `hidden`, the one place that looks inside it, and the words in which the laws of merging say what is left.
+-- Laws of `hidden`, and the words in which the laws of merging say what is left.
+-- Beside the worked cases only this file looks inside `hidden`.
 --     hidden-by, hidden-some       a run that hides a record has one that does, and the other way round
 --     hidden-none, none-hidden     a run that does not has none
 --     Stays, NotOld                a record of two runs, or of a tray, that nothing newer hides
@@ -8,7 +9,7 @@ use mathlib.Core.Logic.{_⊎_}
 use mathlib.Core.Bool.{Bool, true, false}
 use mathlib.Core.List.{List, _∷_, _++_}
 use Rattle.theory.specs.Rising.{Mem, All, any}
-use Rattle.theory.specs.Rising.Laws.{some-any, any-some, none-any, any-none}
+use Rattle.theory.specs.Rising.Kept.{some-any, any-some, none-any, any-none}
 use Rattle.theory.specs.Merge.{hidden}
 
 module _ {A : Type 0} (hides : A → A → Bool) where

@@ -11,24 +11,18 @@
 use mathlib.Core.Path.{_≡_, refl, sym, ap, _∙_}
 use mathlib.Core.Logic.{inl, inr, ⊎-elim}
 use Prim.Native.Nat.{ℕ}
-use mathlib.Core.Bool.{Bool, true, false, not, _||_}
-use mathlib.Core.List.{List, [], _∷_, _++_, List·Memᴰ·head, List·Memᴰ·not-nil, List·Memᴰ·cases-cons}
+use mathlib.Core.Bool.{Bool, true, false, not}
+use mathlib.Core.List.{List, [], _∷_, _++_, List·Memᴰ·not-nil, List·Memᴰ·cases-cons}
+use borrow.Author.Tests.{not-true}
+use Rattle.theory.specs.Tests.{cases, clash, or-left, or-right}
+use Rattle.theory.specs.Lists.{here, all-nil, all-tail}
 use Rattle.theory.specs.Rising.{Mem, All, none, any, keep}
-use Rattle.theory.specs.Rising.Laws.{cases, clash, all-tail, mem-keep, keep-mem, rises-keep, mem-insertAll, insertAll-mem, rises-insertAll, same-members}
-use Rattle.theory.specs.Rising.More.{any-nil, any-cons, insertAll-nil, keep-all}
+use Rattle.theory.specs.Rising.Laws.{same-members}
+use Rattle.theory.specs.Rising.Kept.{mem-keep, keep-mem, rises-keep, any-nil, any-cons, keep-all}
+use Rattle.theory.specs.Rising.Inserted.{mem-insertAll, insertAll-mem, rises-insertAll, insertAll-nil}
 use Rattle.theory.specs.Hiding.{Rule}
 use Rattle.theory.specs.Merge.{hidden, over, merged, GoodRun, Good}
 use Rattle.theory.specs.Merge.Hidden.{hidden-by, hidden-some, hidden-none, none-hidden, Stays, NotOld}
-
--- a test whose negation passes fails
-not-true : (b : Bool) → not b ≡ true → b ≡ false
-not-true true e = clash e refl
-not-true false e = refl
-
--- where not one of two tests passes, both fail
-neither : (b : Bool) {c : Bool} → (b || c) ≡ false → (b ≡ false) × (c ≡ false)
-neither true e = clash refl e
-neither false e = (refl, e)
 
 module _ {A : Type 0} (key : A → ℕ) (hides : A → A → Bool) where
   pub over-mem : {x : A} (newer older : List A) → Mem x (over key hides newer older) → Stays hides newer older x
@@ -44,7 +38,7 @@ module _ {A : Type 0} (key : A → ℕ) (hides : A → A → Bool) where
   pub over-nil-left : (run : List A) → over key hides [] run ≡ run
   unfolding over
   over-nil-left run =
-      insertAll-nil key _ ∙ keep-all _ run (λ a m. ap not (hidden-none hides {x = a} [] (λ b n. absurd (List·Memᴰ·not-nil n))))
+      insertAll-nil key _ ∙ keep-all _ run (λ a m. ap not (hidden-none hides {x = a} [] (all-nil _)))
 
   -- under the same newer runs, other runs of the same merge
   pub merged-front : (s t u : List (List A)) → merged key hides t ≡ merged key hides u
@@ -56,10 +50,10 @@ module _ {A : Type 0} (key : A → ℕ) (hides : A → A → Bool) where
   pub merged-mem : {x : A} (t : List (List A)) → Mem x (merged key hides t) → NotOld hides x t
   unfolding merged
   merged-mem [] m = absurd (List·Memᴰ·not-nil m)
-  merged-mem {x} (r ∷ t) m = ⊎-elim here (λ k. later (merged-mem t (k .0)) (k .1)) (over-mem r (merged key hides t) m)
+  merged-mem {x} (r ∷ t) m = ⊎-elim this (λ k. later (merged-mem t (k .0)) (k .1)) (over-mem r (merged key hides t) m)
     where
-      here : Mem x r → NotOld hides x (r ∷ t)
-      here n = record { newer = []; run = r; older = t; splits = refl; stands = n; unhidden = any-nil _ }
+      this : Mem x r → NotOld hides x (r ∷ t)
+      this n = record { newer = []; run = r; older = t; splits = refl; stands = n; unhidden = any-nil _ }
 
       later : NotOld hides x t → hidden hides r x ≡ false → NotOld hides x (r ∷ t)
       later w f =
@@ -78,8 +72,8 @@ module _ {A : Type 0} (key : A → ℕ) (hides : A → A → Bool) where
   unfolding merged
   mem-split [] r u m f = mem-over r (merged key hides u) (inl m)
   mem-split {x} (q ∷ s) r u m f =
-      let w = neither (hidden hides q x) (rw any-cons at f) in
-      mem-over q (merged key hides (s ++ (r ∷ u))) (inr (mem-split s r u m (w .1), w .0))
+      let either = rw any-cons at f in
+      mem-over q (merged key hides (s ++ (r ∷ u))) (inr (mem-split s r u m (or-right (hidden hides q x) _ either), or-left _ _ either))
 
   pub mem-merged : {x : A} (t : List (List A)) → NotOld hides x t → Mem x (merged key hides t)
   mem-merged t w = rw (w .splits) (mem-split (w .newer) (w .run) (w .older) (w .stands) (w .unhidden))
@@ -155,10 +149,10 @@ module _ {A : Type 0} (key : A → ℕ) (hides : A → A → Bool) where
         (λ x m. ⊎-elim (λ n. n) (λ k. clash (all x (k .0)) (k .1)) (over-mem r q m)) (λ x m. mem-over r q (inl m))
 
     pub nil-good : GoodRun Ok key []
-    nil-good = record { rises = none; sound = λ x m. absurd (List·Memᴰ·not-nil m) }
+    nil-good = record { rises = none; sound = all-nil _ }
 
     pub over-nil-right : {r : List A} → GoodRun Ok key r → over key hides r [] ≡ r
-    over-nil-right g = over-all g nil-good (λ x m. absurd (List·Memᴰ·not-nil m))
+    over-nil-right g = over-all g nil-good (all-nil _)
 
     pub over-self : {r : List A} → GoodRun Ok key r → over key hides r r ≡ r
     over-self {r} g = over-all g g (λ x m. hides-itself r m)
@@ -166,7 +160,7 @@ module _ {A : Type 0} (key : A → ℕ) (hides : A → A → Bool) where
     pub merged-good : (t : List (List A)) → Good Ok key t → GoodRun Ok key (merged key hides t)
     unfolding merged
     merged-good [] g = nil-good
-    merged-good (r ∷ t) g = over-good (g r (List·Memᴰ·head refl)) (merged-good t (all-tail g))
+    merged-good (r ∷ t) g = over-good (g r here) (merged-good t (all-tail g))
 
     pub merged-one : {r : List A} → GoodRun Ok key r → merged key hides (r ∷ []) ≡ r
     unfolding merged
@@ -178,7 +172,7 @@ module _ {A : Type 0} (key : A → ℕ) (hides : A → A → Bool) where
     merged-append [] t gs gt = sym (over-nil-left (merged key hides t))
     merged-append (r ∷ s) t gs gt =
         ap (over key hides r) (merged-append s t (all-tail gs) gt)
-        ∙ sym (over-assoc (gs r (List·Memᴰ·head refl)) (merged-good s (all-tail gs)) (merged-good t gt))
+        ∙ sym (over-assoc (gs r here) (merged-good s (all-tail gs)) (merged-good t gt))
 
     pub merged-covers : {r : List A} {x : A} (t : List (List A)) → Good Ok key t → Mem r t → Mem x r
         → hidden hides (merged key hides t) x ≡ true
@@ -186,5 +180,5 @@ module _ {A : Type 0} (key : A → ℕ) (hides : A → A → Bool) where
     merged-covers [] g m n = absurd (List·Memᴰ·not-nil m)
     merged-covers {r} {x} (q ∷ t) g m n =
         cases (hidden hides (merged key hides (q ∷ t)) x) (λ h. h)
-        (λ f. let w = over-shows (g q (List·Memᴰ·head refl)) (merged-good t (all-tail g)) (g r m .sound x n) f in
+        (λ f. let w = over-shows (g q here) (merged-good t (all-tail g)) (g r m .sound x n) f in
         ⊎-elim (λ e. clash (hides-itself q (rw e at n)) (w .0)) (λ k. clash (merged-covers t (all-tail g) k n) (w .1)) (List·Memᴰ·cases-cons m))

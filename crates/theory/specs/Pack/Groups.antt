@@ -5,7 +5,7 @@
 --     groups-joined            the groups put together are the list
 --     groups-full              no group is empty
 --     groups-one               a group has one number
---     groups-apart, groups-cut neighbours have different numbers: as a chain, and wherever two stand
+--     Apart, groups-apart, groups-cut     neighbours have different numbers: as a chain, and wherever two stand
 --     groups-step              a group before a list without its number is the first group: the step of a merge
 use mathlib.Core.Path.{_≡_, refl, sym, ap, _∙_}
 use mathlib.Core.Logic.{_⊎_, inl, inr}
@@ -18,9 +18,10 @@ use native.Mathlib.Nat.{not-suc-le-zero}
 use native.Mathlib.Omega.{arith}
 use lib.ListN.{length}
 use borrow.Author.Tests.{eqb-true, eqb-false, eq-eqb, ne-eqb}
+use Rattle.theory.specs.Tests.{split}
+use Rattle.theory.specs.Lists.{here, all-nil, all-cons, all-tail, chain-at}
 use Rattle.theory.specs.Rising.{Mem, All}
 use Rattle.theory.specs.Pack.{joined, grouped, groups, OneKey}
-use Rattle.theory.specs.Pack.Lists.{by, here, all-nil, all-cons, all-tail, chain-at}
 
 module _ {A : Type 0} where
   -- lists of lists put one after another
@@ -65,7 +66,7 @@ module _ {A : Type 0} where
         → Cuts (a ∷ b ∷ xs) (grouped f a ((b ∷ bs) ∷ gs))
     unfolding grouped
     cut a b xs bs gs c =
-        by (Cuts (a ∷ b ∷ xs)) _ (λ e. cuts-same (eqb-true _ _ e) c) (λ e. cuts-other (eqb-false _ _ e) c)
+        split (Cuts (a ∷ b ∷ xs)) _ (λ e. cuts-same (eqb-true _ _ e) c) (λ e. cuts-other (eqb-false _ _ e) c)
 
     -- one more before any groups
     cut-more : (a : A) {xs : List A} {gs : List (List A)} → Cuts xs gs → Cuts (a ∷ xs) (grouped f a gs)

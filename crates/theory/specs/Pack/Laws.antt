@@ -3,8 +3,8 @@
 --     pack-joined    the segments put together are the groups put together
 --     pack-fits      no segment is too long, if no group is
 --     pack-full      no segment is empty, if no group is
---     pack-parts     segments are made of whole groups
---     pack-cut       no key goes on from a segment to the next
+--     Parts, pack-parts     segments are made of whole groups
+--     Cut, pack-cut  no key goes on from a segment to the next
 --     pack-pairs     two neighbouring segments hold more than d members
 --     pack-bound     half of the segments rounded down, times d + 1, is at most the members
 --     pack-most      how many segments there are at most
@@ -17,9 +17,10 @@ use native.Mathlib.Nat.{zero-mul, suc-mul, le-div-iff-mul-le}
 use native.Mathlib.Omega.{arith}
 use lib.ListN.{length, length-append}
 use borrow.Author.Tests.{leb-true, leb-false}
+use Rattle.theory.specs.Tests.{split}
+use Rattle.theory.specs.Lists.{here, all-nil, all-cons, all-tail, chain-at, first-before, last-after}
 use Rattle.theory.specs.Rising.{All}
 use Rattle.theory.specs.Pack.{joined, groups, packOn, pack}
-use Rattle.theory.specs.Pack.Lists.{by, here, all-nil, all-cons, all-tail, chain-at, first-before, last-after}
 use Rattle.theory.specs.Pack.Groups.{joined-append, Apart, groups-full, groups-apart}
 
 module _ {A : Type 0} where
@@ -61,7 +62,7 @@ module _ {A : Type 0} where
     unfolding packOn
     packs s [] = ends
     packs s (g ∷ gs) =
-        by (Packs s (g ∷ gs)) _
+        split (Packs s (g ∷ gs)) _
         (λ e. fits (leb-true _ _ e) (packs (s ++ g) gs))
         (λ e. opens (leb-false _ _ e) (packs g gs))
 

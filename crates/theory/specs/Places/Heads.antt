@@ -1,4 +1,4 @@
--- Laws of the next records of all runs. Only this file looks inside `headOf` and `headsFrom`.
+-- Laws of the next records of all runs. Beside the worked cases only this file looks inside `headOf` and `headsFrom`.
 --     heads-head, head-heads       they are the heads
 --     heads-rise, heads-length     one a run at most, in run order
 --     heads-take                   heads in run order can be read one after another
@@ -11,10 +11,10 @@ use native.Mathlib.Omega.{arith}
 use mathlib.Core.Option.{Option, none, some, Option·some-injective}
 use mathlib.Core.List.{List, [], _∷_, List·Memᴰ·head, List·Memᴰ·tail, List·Memᴰ·not-nil, List·Memᴰ·eq-of-singleton, List·Memᴰ·append-cases, Memᴰ·append-left, Memᴰ·append-right}
 use lib.ListN.{length, getElem?, length-append}
+use Rattle.theory.specs.Lists.{all-nil, none-some}
 use Rattle.theory.specs.Rising.{Mem, All, Rises, none, more}
 use Rattle.theory.specs.Rising.Laws.{rises-append}
 use Rattle.theory.specs.View.{Entry, runAt}
-use Rattle.theory.specs.View.Lists.{none-some}
 use Rattle.theory.specs.View.Entries.{entry-eq, AtFrom, from-at}
 use Rattle.theory.specs.Places.{bump, Head, Takes, take-none, take-more, headOf, headsFrom}
 use Rattle.theory.specs.Places.Passed.{bump-other}
@@ -35,7 +35,7 @@ module _ {A : Type 0} where
     headOf-rises : (f : Entry A → ℕ) (o : Option A) → Rises f (headOf i j o)
     unfolding headOf
     headOf-rises f none = none
-    headOf-rises f (some a) = more (λ b m. absurd (List·Memᴰ·not-nil m)) none
+    headOf-rises f (some a) = more (all-nil _) none
 
     headOf-length : (o : Option A) → length (headOf i j o) ≤ 1
     unfolding headOf

@@ -1,6 +1,6 @@
 -- A stretch of entries that is read from the runs one by one, in order, is the next part of the view, and the other way round:
 -- the ground of the index check, of the walk and of the merge of all runs. `stretch` is the law that the rest stands on.
---     takes-read, read-takes, takes-append     what is read: the entries between the places before and after
+--     Read, takes-read, read-takes, takes-append     what is read: the entries between the places before and after
 --     stretch                                  what is read in order is the next part of the view
 --     stretch-back, first-head                 the next part of the view is read from the runs one by one
 --     place-count                              an entry's place is the number of entries of its run before it
@@ -14,8 +14,10 @@ use mathlib.Core.List.{List, [], _∷_, _++_, append-cancel-left, List·Memᴰ·
 use lib.ListN.{length}
 use lib.Dec.{eqb, leb}
 use borrow.Author.Tests.{eqb-true, eqb-false, leb-true, leb-false}
+use Rattle.theory.specs.Tests.{cases}
+use Rattle.theory.specs.Lists.{all-nil}
 use Rattle.theory.specs.Rising.{Mem, All, Rises, none, more}
-use Rattle.theory.specs.Rising.Laws.{cases, rises-append, rises-across, same-members}
+use Rattle.theory.specs.Rising.Laws.{rises-append, rises-across, same-members}
 use Rattle.theory.specs.Merge.{Good}
 use Rattle.theory.specs.View.{Entry, At, rank, view}
 use Rattle.theory.specs.View.Entries.{at-one}
@@ -109,8 +111,7 @@ module _ {A : Type 0} {Ok : A → Type 0} {key : A → ℕ} {t : List (List A)} 
     first-rest : w ≡ rest key t (bump p (e .run))
     unfolding passed
     first-rest =
-        let one = more (λ x m. absurd (List·Memᴰ·not-nil m)) none in
-        let parts = stretch {p = p} {s = e ∷ []} (take-more first-head take-none) one below in
+        let parts = stretch {p = p} {s = e ∷ []} (take-more first-head take-none) (more (all-nil _) none) below in
         append-cancel-left (e ∷ []) w (rest key t (bump p (e .run))) (sym is ∙ parts)
       where
         again : Head t (bump p (e .run)) e → ⊥

@@ -1,5 +1,5 @@
 -- Laws of places that are read on: one run's place raised, and the places after some entries.
--- Only this file looks inside `bump` and `count`.
+-- Beside the worked cases only this file looks inside `bump` and `count`.
 --     bump-same, bump-other, bump-le          the place of one run raised
 --     passed-append, passed-count, passed-le  the places after some entries: each raised by the entries of its run
 --     count-append                            the entries of a run in two parts
@@ -11,7 +11,7 @@ use native.Mathlib.Omega.{arith}
 use mathlib.Core.List.{List, [], _∷_, _++_}
 use lib.Dec.{eqb}
 use borrow.Author.Tests.{eq-eqb, ne-eqb, eqb-true, eqb-false}
-use Rattle.theory.specs.Rising.Laws.{split, cases}
+use Rattle.theory.specs.Tests.{split, cases}
 use Rattle.theory.specs.View.{Entry}
 use Rattle.theory.specs.Places.{bump, passed, count}
 

@@ -1,4 +1,5 @@
--- Laws of what is left of the view at some places, and of the next records there. Only this file looks inside `rest`.
+-- Laws of what is left of the view at some places, and of the next records there.
+-- Beside the worked cases only this file looks inside `rest`.
 --     rest-zero, rest-same, mem-rest, rest-mem    what is left: the entries at or past the places
 --     rest-rises, head-first                      it rises, and of each run the next record comes first
 --     head-lt, lt-head, head-of                   a run has a next record exactly where something of it is left
@@ -11,11 +12,12 @@ use mathlib.Core.List.{List, [], List·Memᴰ·not-nil}
 use lib.ListN.{length}
 use lib.Dec.{ltb}
 use borrow.Author.Tests.{le-leb, leb-true, ltb-true, ltb-false}
+use Rattle.theory.specs.Tests.{cases}
+use Rattle.theory.specs.Lists.{no-members, place-lt, lt-place}
 use Rattle.theory.specs.Rising.{Mem, Rises}
-use Rattle.theory.specs.Rising.Laws.{cases, mem-keep, keep-mem, rises-keep}
+use Rattle.theory.specs.Rising.Kept.{mem-keep, keep-mem, rises-keep, keep-all}
 use Rattle.theory.specs.Merge.{Good}
 use Rattle.theory.specs.View.{Entry, runAt, At, rank, view}
-use Rattle.theory.specs.View.Lists.{keep-all, no-members, place-lt, lt-place}
 use Rattle.theory.specs.View.Entries.{at-rise-le}
 use Rattle.theory.specs.View.Laws.{view-at, at-view, view-rises}
 use Rattle.theory.specs.Places.{rest, Head}

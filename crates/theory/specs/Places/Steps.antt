@@ -1,5 +1,5 @@
 -- The step of a merge of all runs: where k is the least key left, its versions among the next records are the view's next part.
--- Only this file looks inside `versions`.
+-- Beside the worked cases only this file looks inside `versions`.
 --     versions-head, head-versions, versions-key    the versions of a key: the next records that have it
 --     versions-runs, versions-rise, versions-length, versions-takes    one a run at most, in run order
 --     step, step-above     they come next in the view, and after them only higher keys
@@ -11,11 +11,12 @@ use mathlib.Core.List.{List, _++_}
 use lib.ListN.{length}
 use lib.Dec.{eqb, ltb}
 use borrow.Author.Tests.{eq-eqb, eqb-true, ltb-true, ltb-false}
+use Rattle.theory.specs.Tests.{cases}
 use Rattle.theory.specs.Rising.{Mem, Rises}
-use Rattle.theory.specs.Rising.Laws.{cases, mem-keep, keep-mem, rises-keep}
+use Rattle.theory.specs.Rising.Laws.{rises-by}
+use Rattle.theory.specs.Rising.Kept.{mem-keep, keep-mem, rises-keep, keep-length}
 use Rattle.theory.specs.Merge.{Good}
 use Rattle.theory.specs.View.{Entry, At, rank}
-use Rattle.theory.specs.View.Lists.{rises-by, keep-length}
 use Rattle.theory.specs.View.Entries.{at-low, at-rise, at-rise-le}
 use Rattle.theory.specs.Places.{rest, passed, Head, Takes, headsFrom, versions}
 use Rattle.theory.specs.Places.Passed.{passed-le}

@@ -1,6 +1,10 @@
--- Laws of entries: what stands in a tray, and where. Only this file and `View/Laws.antt` look inside `spread` and `entriesFrom`.
+-- Laws of entries: what stands in a tray, and where.
+-- Beside the worked cases only this file and `View/Laws.antt` look inside `spread` and `entriesFrom`.
 --     entry-eq, at-one                two entries of one place are one
+--     InRun, spread-mem               the entries of one run
+--     AtFrom, entries-mem, from-at    the entries of a tray whose first run has any number
 --     entries-at, at-entries          the entries are what stands in the tray
+--     runAt-lt, runAt-place, runAt-past     a run by its number: where it holds something, where it stands, past the last
 --     at-run, at-low, at-mem, mem-at  an entry's run, and the records of a run
 --     runs-rise, at-rise, at-rise-le  a run's keys rise, from place to place
 -- Assumes nothing.
@@ -11,14 +15,15 @@ use native.Mathlib.Nat.{zero-add, add-zero}
 use native.Mathlib.Omega.{arith}
 use mathlib.Core.Option.{some, Option·some-injective}
 use mathlib.Core.List.{List, [], _∷_, List·Memᴰ·head, List·Memᴰ·tail, List·Memᴰ·not-nil, List·Memᴰ·cases-cons, List·Memᴰ·append-cases, Memᴰ·append-left, Memᴰ·append-right}
-use lib.ListN.{length, getElem?}
+use lib.ListN.{length, getElem?, List·getD-eq-default}
 use lib.Dec.{ltb}
 use borrow.Author.Tests.{ltb-true, ltb-false}
+use Rattle.theory.specs.Tests.{cases}
+use Rattle.theory.specs.Lists.{none-some, place-mem, mem-place, place-getD}
 use Rattle.theory.specs.Rising.{Mem, Rises, none}
-use Rattle.theory.specs.Rising.Laws.{cases}
+use Rattle.theory.specs.Rising.Laws.{rises-places}
 use Rattle.theory.specs.Merge.{Good}
 use Rattle.theory.specs.View.{Entry, spread, entriesFrom, entries, runAt, At}
-use Rattle.theory.specs.View.Lists.{none-some, place-mem, mem-place, rises-places}
 
 module _ {A : Type 0} where
   -- e is a record of run i, the list being that run from place j on
@@ -76,6 +81,17 @@ module _ {A : Type 0} where
   runAt-lt (r ∷ rs) zero j e = omega arith
   runAt-lt (r ∷ rs) (suc i) j e = let l : i < length rs = runAt-lt rs i j e in omega arith
 
+  -- the run that stands at a number
+  pub runAt-place : (t : List (List A)) (i : ℕ) {r : List A} → getElem? t i ≡ some r → runAt t i ≡ r
+  unfolding runAt
+  runAt-place t i e = place-getD t i [] e
+
+  -- past the last run there is no record
+  pub runAt-past : (t : List (List A)) (i : ℕ) → length t ≤ i → runAt t i ≡ []
+  unfolding runAt
+  runAt-past t i l = List·getD-eq-default t [] l
+
+  -- a run number is that of a run, or past the last
   runAt-mem : (t : List (List A)) (i : ℕ) → (runAt t i ≡ []) ⊎ Mem (runAt t i) t
   unfolding runAt
   runAt-mem [] i = inl refl

@@ -1,22 +1,24 @@
 -- Laws of the view: which entries it holds, in which order, and that no other list is the view.
--- Only this file looks inside `view`.
+-- Beside the worked cases only this file looks inside `view`.
 --     before→rank, rank→before        one number for the order, up to 64 runs
 --     view-at, at-view, view-rises    the view's entries, and that they rise
 --     view-is, view-one               the view in 01's words, and no other list is one
 -- Not here: what stands in a tray and where, which is in `View/Entries.antt`. Assumes nothing.
-use mathlib.Core.Path.{_≡_, refl}
+use mathlib.Core.Path.{_≡_}
 use mathlib.Core.Logic.{inl, inr, ⊎-elim}
 use Prim.Native.Nat.{ℕ, suc, _+_, _*_, _<_, _≤_}
 use native.Mathlib.Omega.{arith}
-use mathlib.Core.List.{List, [], _∷_, append-nil, List·Memᴰ·head, List·Memᴰ·tail, List·Memᴰ·not-nil}
+use mathlib.Core.List.{List, [], _∷_, append-nil, List·Memᴰ·tail, List·Memᴰ·not-nil}
 use lib.ListN.{length}
 use lib.Dec.{ltb}
 use borrow.Author.Tests.{ltb-true, ltb-false}
+use Rattle.theory.specs.Tests.{cases}
+use Rattle.theory.specs.Lists.{here, all-nil, all-tail, place-mem}
 use Rattle.theory.specs.Rising.{Mem, All, Rises, none, more, insertAll}
-use Rattle.theory.specs.Rising.Laws.{cases, all-tail, mem-insertAll, insertAll-mem, rises-insertAll, same-members, permuted-insertAll, permuted-mem, permuted-back}
+use Rattle.theory.specs.Rising.Laws.{same-members}
+use Rattle.theory.specs.Rising.Inserted.{mem-insertAll, insertAll-mem, rises-insertAll, permuted-insertAll, permuted-mem, permuted-back, insertAll-append}
 use Rattle.theory.specs.Merge.{Good}
 use Rattle.theory.specs.View.{Entry, spread, entriesFrom, entries, At, Before, InOrder, order-none, order-more, IsView, rank, view}
-use Rattle.theory.specs.View.Lists.{place-mem, insertAll-append}
 use Rattle.theory.specs.View.Entries.{InRun, spread-mem, entries-mem, runAt-lt, entries-at, at-entries, at-low}
 
 module _ {A : Type 0} where
@@ -35,7 +37,7 @@ module _ {A : Type 0} where
     order-rises : {v : List (Entry A)} → All (λ e. e .run < 64) v → InOrder key v → Rises (rank key) v
     order-rises few order-none = none
     order-rises few (order-more {e} {es} h r) =
-        more (λ b m. before→rank key e b (few e (List·Memᴰ·head refl)) (h b m)) (order-rises (all-tail few) r)
+        more (λ b m. before→rank key e b (few e here) (h b m)) (order-rises (all-tail few) r)
 
     rises-order : {v : List (Entry A)} → All (λ e. e .run < 64) v → Rises (rank key) v → InOrder key v
     rises-order few none = order-none
@@ -61,10 +63,10 @@ module _ {A : Type 0} where
     entries-rise : {Ok : A → Type 0} (i : ℕ) (t : List (List A)) → Good Ok key t → i + length t ≤ 64
         → Rises (rank key) (insertAll (rank key) (entriesFrom i t) [])
     unfolding entriesFrom
-    entries-rise i [] good few = rises-insertAll (rank key) none (λ a m. absurd (List·Memᴰ·not-nil m)) none
+    entries-rise i [] good few = rises-insertAll (rank key) none (all-nil _) none
     entries-rise i (r ∷ rs) good few =
         rw insertAll-append
-        (rises-insertAll (rank key) (spread-rises i 0 (good r (List·Memᴰ·head refl) .rises))
+        (rises-insertAll (rank key) (spread-rises i 0 (good r here .rises))
         (λ a m b n eq. ⊎-elim (λ k. apart i r rs few m k eq) (λ k. List·Memᴰ·not-nil k)
         (insertAll-mem (rank key) (entriesFrom (suc i) rs) [] n))
         (entries-rise (suc i) rs (all-tail good) (omega arith)))

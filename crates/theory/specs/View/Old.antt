@@ -1,25 +1,28 @@
 -- Laws of `old`: what hides an entry, and in edition 0 that its neighbour in the view tells.
--- Only this file and `View/Visible.antt` look inside it.
+-- Beside the worked cases only this file and `View/Visible.antt` look inside it.
 --     old-some, some-old           old is: an entry of a lower-numbered run hides it
 --     old-before, before-old       edition 0: an entry before it in the view has its key
 --     old-neighbour, old-first     edition 0: the entry just before it has its key; the first entry is not old
 -- Assumes nothing.
-use mathlib.Core.Path.{_≡_, refl, sym, ap, _∙_}
+use mathlib.Core.Path.{_≡_, sym, ap, _∙_}
 use mathlib.Core.Logic.{⊎-elim}
 use Prim.Native.Nat.{ℕ, zero, suc, _<_, _≤_}
 use native.Mathlib.Omega.{arith}
 use mathlib.Core.Bool.{Bool, true, false}
-use mathlib.Core.List.{List, [], _∷_, _++_, List·Memᴰ·head, List·Memᴰ·tail, List·Memᴰ·not-nil, List·Memᴰ·cases-cons, List·Memᴰ·eq-of-singleton, List·Memᴰ·append-cases, Memᴰ·append-left, Memᴰ·append-right}
+use mathlib.Core.List.{List, [], _∷_, _++_, List·Memᴰ·tail, List·Memᴰ·not-nil, List·Memᴰ·cases-cons, List·Memᴰ·eq-of-singleton, List·Memᴰ·append-cases, Memᴰ·append-left, Memᴰ·append-right}
 use lib.ListN.{length, take}
 use lib.Seq.{append-snoc}
 use lib.Dec.{eqb}
 use borrow.Author.Tests.{eqb-true, eq-eqb}
+use Rattle.theory.specs.Tests.{cases, same-test}
+use Rattle.theory.specs.Lists.{here}
 use Rattle.theory.specs.Rising.{Mem, Rises}
-use Rattle.theory.specs.Rising.Laws.{cases, some-any, any-some, rises-across}
+use Rattle.theory.specs.Rising.Laws.{rises-across, rises-before}
+use Rattle.theory.specs.Rising.Kept.{some-any, any-some}
 use Rattle.theory.specs.Hiding.{sameKey}
 use Rattle.theory.specs.Merge.{hidden, Good}
+use Rattle.theory.specs.Merge.Hidden.{hidden-by, hidden-some}
 use Rattle.theory.specs.View.{Entry, runAt, At, rank, view, old}
-use Rattle.theory.specs.View.Lists.{same-test, rises-before}
 use Rattle.theory.specs.View.Entries.{at-low, at-mem, at-run, mem-at}
 use Rattle.theory.specs.View.Laws.{view-at, at-view, view-rises}
 
@@ -36,25 +39,25 @@ module _ {A : Type 0} where
   unfolding runAt
   run-take t zero i l k = absurd (omega arith)
   run-take [] (suc n) i l k = absurd (omega arith)
-  run-take (r ∷ t) (suc n) zero l k = List·Memᴰ·head refl
+  run-take (r ∷ t) (suc n) zero l k = here
   run-take (r ∷ t) (suc n) (suc i) l k = List·Memᴰ·tail (run-take t n i (omega arith) (omega arith))
 
   module _ (hides : A → A → Bool) (t : List (List A)) where
     pub old-some : (e : Entry A) → old hides t e ≡ true
         → (x : Entry A) × At t x × (x .run < e .run) × (hides (x .item) (e .item) ≡ true)
-    unfolding old hidden
+    unfolding old
     old-some e h =
         let w = any-some _ (take (e .run) t) h in
         let i = take-run t (e .run) (w .1) in
-        let v = any-some (λ a. hides a (e .item)) (runAt t (i .0)) (ap (λ r. hidden hides r (e .item)) (sym (i .2)) ∙ w .2) in
+        let v = hidden-by hides (runAt t (i .0)) (ap (λ r. hidden hides r (e .item)) (sym (i .2)) ∙ w .2) in
         let x = mem-at t (i .0) (v .1) in
         (x .0, x .1, omega arith, ap (λ a. hides a (e .item)) (x .3) ∙ v .2)
 
     pub some-old : (x e : Entry A) → At t x → x .run < e .run → hides (x .item) (e .item) ≡ true → old hides t e ≡ true
-    unfolding old hidden
+    unfolding old
     some-old x e a l h =
         some-any _ (take (e .run) t) (run-take t (e .run) (x .run) l (at-run t x a))
-        (some-any _ (runAt t (x .run)) (at-mem t x a) h)
+        (hidden-some hides (runAt t (x .run)) (at-mem t x a) h)
 
   module _ {Ok : A → Type 0} {key : A → ℕ} {t : List (List A)} (good : Good Ok key t) (few : length t ≤ 64) where
     module _ (b : List (Entry A)) (e : Entry A) (w : List (Entry A)) (is : view key t ≡ b ++ (e ∷ w)) where
@@ -62,7 +65,7 @@ module _ {A : Type 0} where
       up = rw is at (view-rises good few)
 
       earlier : (x : Entry A) → Mem x b → rank key x < rank key e
-      earlier x m = rises-across (rank key) b (e ∷ w) up x m e (List·Memᴰ·head refl)
+      earlier x m = rises-across (rank key) b (e ∷ w) up x m e here
 
       low : (x : Entry A) → Mem x (b ++ (e ∷ w)) → x .run < 64
       low x m = at-low t x few (view-at key t x (rw is m))
@@ -88,9 +91,9 @@ module _ {A : Type 0} where
       between : (x : Entry A) → Mem x b → key (x .item) ≡ key (e′ .item) → key (e .item) ≡ key (e′ .item)
       between x m p =
           let l = earlier b e (e′ ∷ w) is x m in
-          let l′ = earlier (b ++ (e ∷ [])) e′ w parts e (Memᴰ·append-right b (List·Memᴰ·head refl)) in
-          let u = low b e (e′ ∷ w) is e (Memᴰ·append-right b (List·Memᴰ·head refl)) in
-          let u′ = low b e (e′ ∷ w) is e′ (Memᴰ·append-right b (List·Memᴰ·tail (List·Memᴰ·head refl))) in
+          let l′ = earlier (b ++ (e ∷ [])) e′ w parts e (Memᴰ·append-right b here) in
+          let u = low b e (e′ ∷ w) is e (Memᴰ·append-right b here) in
+          let u′ = low b e (e′ ∷ w) is e′ (Memᴰ·append-right b (List·Memᴰ·tail here)) in
           omega arith
 
       near : (x : Entry A) → Mem x (b ++ (e ∷ [])) → key (x .item) ≡ key (e′ .item) → key (e .item) ≡ key (e′ .item)
@@ -102,4 +105,4 @@ module _ {A : Type 0} where
       old-neighbour =
           same-test (old (sameKey key) t e′) (eqb (key (e .item)) (key (e′ .item)))
           (λ y. let o = old-before (b ++ (e ∷ [])) e′ w parts y in eq-eqb _ _ (near (o .0) (o .1) (o .2)))
-          (λ y. before-old (b ++ (e ∷ [])) e′ w parts e (Memᴰ·append-right b (List·Memᴰ·head refl)) (eqb-true _ _ y))
+          (λ y. before-old (b ++ (e ∷ [])) e′ w parts e (Memᴰ·append-right b here) (eqb-true _ _ y))

@@ -3,15 +3,14 @@
 --     judged-end, judged-kind, judged-key     how the loop over runs ends
 --     check-frame, check-judged               the whole call
 -- Assumes nothing.
-use mathlib.Core.Path.{_≡_, refl, sym, ap, ap₂, _∙_, subst}
-use Prim.Native.Nat.{ℕ, zero, suc, _+_, _-_, _*_, _≤_, _<_}
+use mathlib.Core.Path.{_≡_, sym, ap, _∙_}
+use Prim.Native.Nat.{ℕ, suc, _+_, _-_, _*_, _≤_, _<_}
 use native.Mathlib.Omega.{arith}
 use native.Mathlib.Numerals.{add-one}
 use native.Mathlib.Nat.{sub-zero}
-use mathlib.Core.Bool.{Bool, true, false}
+use mathlib.Core.Bool.{true, false}
 use mathlib.Core.List.{List}
 use Rattle.refusal.specs.declared.Refusal.the-variants.{TrayFrame, KeyOrder, RecordKind}
-use Rattle.tray.specs.declared.Place.{Place}
 use Rattle.tray.specs.declared.run.RunAnswer.{RunAnswer}
 use Rattle.tray.specs.declared.run.RunAnswer.the-variants.{Right, WrongKind, WrongKey}
 use Rattle.tray.specs.declared.check.TrayAnswer.{TrayAnswer}
@@ -56,20 +55,21 @@ module _ (t : List ℕ) where
           same = sym (one-run l (sym e ∙ found) ∙ ap (checkRuns (runCount t - (r + 1)) t) (sym (add-one r))) ∙ j .same;
         }
 
-    -- its record p is wrong
+    -- its record p is wrong: the run's answer is told as the tray's
+    judged-wrong : (told : ℕ → TrayAnswer) (p : ℕ) {m : ℕ} → ((b : ℕ) (next : TrayAnswer) → afterRun b a next ≡ told (b + p)) → m ≡ before + p
+        → told m ≡ checkRuns (runCount t) t 0
+    judged-wrong told p {m} e z =
+        let b : before ≡ recordsBefore t r = j .counted in
+        let number : m ≡ recordsBefore t r + p = omega arith in
+        ap told number ∙ sym (one-run l found ∙ e _ _) ∙ j .same
+
     pub judged-kind : {p m : ℕ} → a ≡ WrongKind (record { 0 = p }) → m ≡ before + p → Refused (RecordKind m) ≡ checkRuns (runCount t) t 0
     unfolding afterRun
-    judged-kind {p} {m} e z =
-        let b : before ≡ recordsBefore t r = j .counted in
-        let here : m ≡ recordsBefore t r + p = omega arith in
-        ap (λ (k : ℕ). Refused (RecordKind k)) here ∙ sym (one-run l (sym e ∙ found)) ∙ j .same
+    judged-kind {p} e = judged-wrong (λ k. Refused (RecordKind k)) p (λ b next. rw e)
 
     pub judged-key : {p m : ℕ} → a ≡ WrongKey (record { 0 = p }) → m ≡ before + p → Refused (KeyOrder m) ≡ checkRuns (runCount t) t 0
     unfolding afterRun
-    judged-key {p} {m} e z =
-        let b : before ≡ recordsBefore t r = j .counted in
-        let here : m ≡ recordsBefore t r + p = omega arith in
-        ap (λ (k : ℕ). Refused (KeyOrder k)) here ∙ sym (one-run l (sym e ∙ found)) ∙ j .same
+    judged-key {p} e = judged-wrong (λ k. Refused (KeyOrder k)) p (λ b next. rw e)
 
   -- all runs are right
   pub judged-end : {before r : ℕ} → Judging before r → runCount t ≤ r → Records before ≡ checkRuns (runCount t) t 0

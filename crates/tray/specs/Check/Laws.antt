@@ -1,27 +1,23 @@
 -- Check tray's answer is what the table says, and only that.
 --     numbered-one         a record's number says its run and place
 --     says                 check tray's answer is one that the table gives
---     says-one             the table gives one answer
+--     Wrong, says-one      the table gives one answer
 --     check-says           so check tray gives an answer exactly when the table does
 -- Assumes nothing.
 use mathlib.Core.Path.{_≡_, refl, sym, ap, ap₂, _∙_, subst}
-use mathlib.Core.Logic.{_⊎_, inl, inr, ⊎-elim, _↔_}
-use Prim.Native.Nat.{ℕ, zero, suc, _+_, _-_, _*_, _≤_, _<_}
+use mathlib.Core.Logic.{_↔_}
+use Prim.Native.Nat.{ℕ, zero, suc, _+_, _≤_, _<_}
 use native.Mathlib.Omega.{arith}
-use native.Mathlib.Numerals.{add-one}
-use native.Mathlib.Nat.{eq-or-lt-of-le, add-zero}
 use mathlib.Core.Bool.{Bool, true, false, cond}
 use mathlib.Core.List.{List}
 use Rattle.refusal.specs.declared.Refusal.the-variants.{TrayFrame, KeyOrder, RecordKind}
-use Rattle.theory.specs.Rising.Laws.{clash, order}
-use Rattle.theory.specs.Records.{SoundRecord}
+use Rattle.theory.specs.Tests.{clash, order}
 use Rattle.tray.specs.declared.run.RunAnswer.{RunAnswer}
-use Rattle.tray.specs.declared.run.RunAnswer.the-variants.{Right, WrongKind, WrongKey}
 use Rattle.tray.specs.declared.check.TrayAnswer.{TrayAnswer}
 use Rattle.tray.specs.declared.check.TrayAnswer.the-variants.{Records, Refused}
 use Rattle.tray.specs.Frame.{runCount, countOf, recordsBefore, runBytes, framed, Framed}
 use Rattle.tray.specs.Frame.Laws.{framed-fits, fits-framed, upto, recordsBefore-next, recordsBefore-le}
-use Rattle.tray.specs.Run.{recordAt, kindWrong, keyWrong, judgeRun}
+use Rattle.tray.specs.Run.{recordAt, kindWrong, keyWrong}
 use Rattle.tray.specs.Run.Laws.{Fine, Judged, all-fine, kind-at, key-at, judged, fine-sound, sound-fine, key-rises, rises-key, first-key}
 use Rattle.tray.specs.Check.{afterRun, checkRuns, checkTray, Sound, Numbered, RightBefore, Says, refused-1, refused-2, refused-3, records}
 

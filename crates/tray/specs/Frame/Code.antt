@@ -1,10 +1,13 @@
 -- What the code of the frame needs of the definitions: each law is a way out of a function, or a turn of its loop.
 --     header-short, header-none, header-many, header-1, header-2, header-3     the header, test by test
+--     Header, header-is                        what a header that fits says
 --     Counted, counted-none, counted-more      the counts and starts found so far
 --     counted-over, counted-all                a count too high; all counts found
+--     no-framing, header-wrong, opened         a frame that does not fit, and one that does
+--     Cut, cut                                 a run as the code cuts it out of the tray
 -- Assumes nothing.
 use mathlib.Core.Path.{_≡_, refl, sym, ap, ap₂, _∙_, subst}
-use Prim.Native.Nat.{ℕ, zero, suc, _+_, _-_, _*_, _≤_, _<_, suc-le-suc}
+use Prim.Native.Nat.{ℕ, suc, _+_, _-_, _*_, _≤_, _<_, suc-le-suc}
 use native.Mathlib.Omega.{arith}
 use native.Mathlib.Numerals.{add-one}
 use mathlib.Core.Bool.{Bool, true, false, _&&_}
@@ -13,10 +16,10 @@ use lib.ListN.{length, getD, take, drop, set, length-set}
 use lib.Seq.{getD-set-same, getD-set-other}
 use lib.Dec.{leb, eqb}
 use borrow.Author.Tests.{leb-true, le-leb, lt-leb, eqb-true, eqb-false, eq-eqb, ne-eqb}
-use Rattle.theory.specs.Rising.Laws.{cases, clash}
+use Rattle.theory.specs.Tests.{cases, clash, and-true, and-left, and-right}
 use Rattle.tray.specs.declared.frame.TrayFrame.{TrayFrame}
-use Rattle.tray.specs.Frame.{runCount, countOf, recordsBefore, startOf, headerFits, countsFit, framed, Framing, Starts, Opened, runBytes}
-use Rattle.tray.specs.Frame.Laws.{framed-fits, length-run, startOf-le, startOf-within, and-true, and-left, and-right, countsFit-not, startOf-zero, startOf-next, upto}
+use Rattle.tray.specs.Frame.{runCount, countOf, startOf, headerFits, countsFit, framed, Framing, Starts, Opened, runBytes}
+use Rattle.tray.specs.Frame.Laws.{framed-fits, length-run, startOf-le, startOf-within, countsFit-not, startOf-zero, startOf-next, upto}
 
 -- equality may be tested either way round
 eqb-turned : (a b : ℕ) → eqb a b ≡ eqb b a

@@ -1,38 +1,23 @@
 -- Laws of the frame.
---     and-true, and-left, and-right     a test of two parts
---     header-long                       a header that fits has room for the counts
---     countsFit-all, all-countsFit      the test of the counts, and the counts
---     framed-fits, fits-framed          the frame as a test, and as 01 has it
---     startOf-zero, startOf-next, startOf-up, startOf-within     where runs start
---     length-run, recordsBefore-up      how long a run is; records are counted upward
+--     upto                                           what holds below n and at n holds below suc n
+--     countsFit-all, all-countsFit, countsFit-not    the test of the counts, and the counts
+--     framed-fits, fits-framed                       the frame as a test, and as 01 has it
+--     recordsBefore-zero, recordsBefore-next, recordsBefore-up, recordsBefore-le     records are counted upward
+--     startOf-zero, startOf-next, startOf-le, startOf-within     where runs start
+--     length-run                                     how long a run is
 -- Assumes nothing.
 use mathlib.Core.Path.{_≡_, refl, sym, subst}
 use mathlib.Core.Logic.{⊎-elim}
 use Prim.Native.Nat.{ℕ, zero, suc, _+_, _-_, _*_, _≤_, _<_}
 use native.Mathlib.Omega.{arith}
 use native.Mathlib.Nat.{le-refl, eq-or-lt-of-le, le-of-suc-le-suc, add-zero, add-suc}
-use mathlib.Core.Bool.{Bool, true, false, _&&_}
+use mathlib.Core.Bool.{true, false}
 use mathlib.Core.List.{List}
-use lib.ListN.{length, getD, take, drop, length-take, length-drop}
+use lib.ListN.{length, getD, length-take, length-drop}
 use lib.Dec.{leb, eqb}
 use borrow.Author.Tests.{leb-true, le-leb, eqb-true, eq-eqb}
-use Rattle.theory.specs.Rising.Laws.{cases, clash}
+use Rattle.theory.specs.Tests.{cases, and-true, and-left, and-right}
 use Rattle.tray.specs.Frame.{runCount, countOf, recordsBefore, startOf, runBytes, Framed, headerFits, countsFit, framed}
-
-pub and-true : {a b : Bool} → a ≡ true → b ≡ true → (a && b) ≡ true
-and-true {a} {b} p q = rw (p, q)
-
-pub and-left : (a b : Bool) → (a && b) ≡ true → a ≡ true
-and-left true b h = refl
-and-left false b h = h
-
-pub and-right : (a b : Bool) → (a && b) ≡ true → b ≡ true
-and-right true b h = h
-and-right false b h = clash h refl
-
-pub header-long : (t : List ℕ) → headerFits t ≡ true → 4 + 2 * runCount t ≤ length t
-unfolding headerFits
-header-long t h = leb-true _ _ (and-left _ _ h)
 
 -- what holds below n and at n holds below suc n
 pub upto : {P : ℕ → Type 0} {n : ℕ} → ((r : ℕ) → r < n → P r) → P n → (r : ℕ) → r < suc n → P r

@@ -11,20 +11,21 @@ use mathlib.Core.Path.{_≡_, refl, sym, ap, _∙_, subst}
 use Prim.Native.Nat.{ℕ, zero, suc, _+_, _*_, _≤_, _<_}
 use native.Mathlib.Nat.{add-zero, zero-add, add-suc, suc-add}
 use native.Mathlib.Omega.{arith}
-use mathlib.Core.List.{List, _∷_, _++_}
+use mathlib.Core.List.{List, [], _∷_, _++_}
 use lib.ListN.{length}
 use Rattle.number.specs.Big.{bytesOf, Bytes}
-use Rattle.number.specs.Big.Laws.{be-bound, bytes-bytesOf}
-use Rattle.theory.specs.Records.{Record, SoundRecord}
+use Rattle.number.specs.Big.Laws.{be-bound, bytes-bytesOf, bytes-cons, bytes-append}
+use Rattle.theory.specs.Lists.{here, all-tail}
 use Rattle.theory.specs.Rising.{Mem, All}
+use Rattle.theory.specs.Listed.{listed}
+use Rattle.theory.specs.Records.{Record, SoundRecord}
 use Rattle.theory.specs.Merge.{Good}
 use Rattle.tray.specs.Frame.{runCount, countOf, recordsBefore, startOf, runBytes, Framed}
 use Rattle.tray.specs.Frame.Laws.{recordsBefore-zero, recordsBefore-next}
 use Rattle.tray.specs.Run.{recordFrom}
 use Rattle.tray.specs.Check.{Sound}
-use Rattle.tray.specs.Meaning.{listed, runsOf, recordBytes, recordsBytes, countsBytes, runsBytes, trayBytes, total, FitsRecord, Fits}
+use Rattle.tray.specs.Meaning.{runsOf, recordBytes, recordsBytes, countsBytes, runsBytes, trayBytes, total, FitsRecord, Fits}
 use Rattle.tray.specs.Meaning.Laws.{runIn, length-runOf, all-runOf, length-runsOf, mem-runsOf, all-runsOf, good-sound}
-use Rattle.tray.specs.Meaning.Parts.{bytes-cons, bytes-append, bytes-laid}
 use Rattle.tray.specs.Meaning.Write.{bytes-run, framed-write-back}
 use Rattle.tray.specs.Meaning.Read.{length-trayBytes, read-back}
 
@@ -49,6 +50,14 @@ bytes-header : (n : ℕ) (s : List ℕ) → n < 256 → Bytes s → Bytes (n ∷
 bytes-header n s h b =
     bytes-cons n (0 ∷ 0 ∷ 0 ∷ s) h
     (bytes-cons 0 (0 ∷ 0 ∷ s) (omega arith) (bytes-cons 0 (0 ∷ s) (omega arith) (bytes-cons 0 s (omega arith) b)))
+
+-- `flat` lays what `one` makes of each member end to end: bytes laid so are bytes
+bytes-laid : {A : Type 0} (one : A → List ℕ) (flat : List A → List ℕ)
+    → flat [] ≡ [] → ((a : A) (xs : List A) → flat (a ∷ xs) ≡ one a ++ flat xs)
+    → (xs : List A) → All (λ a. Bytes (one a)) xs → Bytes (flat xs)
+bytes-laid one flat flat-nil flat-cons [] b = rw flat-nil (λ i. omega arith)
+bytes-laid one flat flat-nil flat-cons (a ∷ xs) b =
+    rw flat-cons (bytes-append (one a) (flat xs) (b a here) (bytes-laid one flat flat-nil flat-cons xs (all-tail b)))
 
 pub bytes-recordBytes : (e : Record) → FitsRecord e → Bytes (recordBytes e)
 unfolding recordBytes

@@ -3,11 +3,12 @@ use mathlib.Core.Path.{_≡_, refl}
 use Prim.Native.Nat.{ℕ}
 use mathlib.Core.List.{List, [], _∷_}
 use Rattle.number.specs.Big.{be, bytesOf}
+use Rattle.theory.specs.Listed.{listed}
 use Rattle.theory.specs.Records.{Record}
 use Rattle.tray.specs.Frame.{runCount, countOf, recordsBefore, startOf, runBytes}
 use Rattle.tray.specs.Run.{recordFrom}
 use Rattle.tray.specs.Sample.{sample}
-use Rattle.tray.specs.Meaning.{listed, runOf, runsOf, recordBytes, recordsBytes, countsBytes, runsBytes, trayBytes}
+use Rattle.tray.specs.Meaning.{runOf, runsOf, recordBytes, recordsBytes, countsBytes, runsBytes, trayBytes}
 
 -- a point, live
 abbrev point : ℕ → ℕ → Record

@@ -2,7 +2,7 @@
 --     length-runOf, getElem?-runOf, getElem?-runOf-past     a run has n records, each at its place
 --     mem-runOf, all-runOf                                  they are its members
 --     rises-runOf, runOf-rises                              a run rises exactly when each key is below the next one
---     length-runsOf, getElem?-runsOf, runAt-runsOf, runAt-runsOf-past     a tray has H runs, each at its number
+--     runIn, length-runsOf, getElem?-runsOf, runAt-runsOf, runAt-runsOf-past     a tray has H runs, each at its number
 --     mem-runsOf, all-runsOf                                they are its members
 --     runs-good, good-sound                                 soundness in 01's words, and the runs that are good
 -- Assumes nothing.
@@ -13,15 +13,17 @@ use native.Mathlib.Nat.{zero-add}
 use native.Mathlib.Omega.{arith}
 use mathlib.Core.List.{List, []}
 use lib.ListN.{length, getElem?}
-use Rattle.theory.specs.Records.{Record, SoundRecord}
+use Rattle.theory.specs.Lists.{place-none}
 use Rattle.theory.specs.Rising.{Mem, All, Rises}
-use Rattle.theory.specs.View.{runAt}
+use Rattle.theory.specs.Listed.Laws.{length-listed, mem-listed, all-listed, getElem?-listed, rises-listed, listed-rises}
+use Rattle.theory.specs.Records.{Record, SoundRecord}
 use Rattle.theory.specs.Merge.{GoodRun, Good}
+use Rattle.theory.specs.View.{runAt}
+use Rattle.theory.specs.View.Entries.{runAt-place, runAt-past}
 use Rattle.tray.specs.Frame.{runCount, countOf, runBytes, Framed}
 use Rattle.tray.specs.Run.{recordAt}
 use Rattle.tray.specs.Check.{Sound}
 use Rattle.tray.specs.Meaning.{runOf, runsOf}
-use Rattle.tray.specs.Meaning.Lists.{length-listed, mem-listed, all-listed, getElem?-listed, getElem?-listed-past, runAt-some, runAt-none, rises-listed, listed-rises}
 
 pub length-runOf : (n : ℕ) (run : List ℕ) → length (runOf n run) ≡ n
 unfolding runOf
@@ -32,8 +34,7 @@ unfolding runOf
 getElem?-runOf n run p h = rw (getElem?-listed n 0 (recordAt run) p h, zero-add)
 
 pub getElem?-runOf-past : (n : ℕ) (run : List ℕ) (p : ℕ) → n ≤ p → getElem? (runOf n run) p ≡ none
-unfolding runOf
-getElem?-runOf-past n run p h = getElem?-listed-past n 0 (recordAt run) p h
+getElem?-runOf-past n run p h = place-none (runOf n run) p (rw length-runOf h)
 
 pub mem-runOf : (n : ℕ) (run : List ℕ) (p : ℕ) → p < n → Mem (recordAt run p) (runOf n run)
 unfolding runOf
@@ -66,11 +67,10 @@ unfolding runsOf
 getElem?-runsOf t r h = rw (getElem?-listed (runCount t) 0 (runIn t) r h, zero-add)
 
 pub runAt-runsOf : (t : List ℕ) (r : ℕ) → r < runCount t → runAt (runsOf t) r ≡ runIn t r
-runAt-runsOf t r h = runAt-some (runsOf t) r (getElem?-runsOf t r h)
+runAt-runsOf t r h = runAt-place (runsOf t) r (getElem?-runsOf t r h)
 
 pub runAt-runsOf-past : (t : List ℕ) (r : ℕ) → runCount t ≤ r → runAt (runsOf t) r ≡ []
-unfolding runsOf
-runAt-runsOf-past t r h = runAt-none (runsOf t) r (getElem?-listed-past (runCount t) 0 (runIn t) r h)
+runAt-runsOf-past t r h = runAt-past (runsOf t) r (rw length-runsOf h)
 
 pub mem-runsOf : (t : List ℕ) (r : ℕ) → r < runCount t → Mem (runIn t r) (runsOf t)
 unfolding runsOf

@@ -5,24 +5,24 @@
 --     count-read                 a count is read where its two bytes stand
 --     runs-read, read-back       so are the runs from a number on, and all of a tray
 -- Assumes nothing.
-use mathlib.Core.Path.{_≡_, refl, sym, ap, _∙_}
+use mathlib.Core.Path.{_≡_, refl, sym, _∙_}
 use Prim.Native.Nat.{ℕ, suc, _+_, _-_, _*_, _^_, _≤_, _<_}
 use native.Mathlib.Nat.{add-zero}
 use native.Mathlib.Omega.{arith}
-use mathlib.Core.List.{List, [], _∷_, _++_, append-assoc, append-nil, List·Memᴰ·head}
+use mathlib.Core.List.{List, [], _∷_, _++_, append-assoc, append-nil}
 use lib.ListN.{length, getD, drop, length-append}
 use lib.Seq.{getD-drop, take-at}
 use Rattle.number.specs.Big.{be, bytesOf}
 use Rattle.number.specs.Big.Laws.{be-drop, be-append-left, be-bytesOf, length-bytesOf}
-use Rattle.theory.specs.Records.{Record}
+use Rattle.theory.specs.Lists.{here, all-tail, part-next}
 use Rattle.theory.specs.Rising.{All}
-use Rattle.theory.specs.Rising.Laws.{all-tail}
+use Rattle.theory.specs.Listed.{listed}
+use Rattle.theory.specs.Records.{Record}
 use Rattle.tray.specs.Frame.{runCount, countOf, startOf, runBytes}
 use Rattle.tray.specs.Frame.Laws.{startOf-zero, startOf-next}
 use Rattle.tray.specs.Run.{recordFrom, recordAt}
-use Rattle.tray.specs.Meaning.{listed, runOf, runsOf, recordBytes, recordsBytes, countsBytes, runsBytes, trayBytes, total, FitsRecord, Fits}
+use Rattle.tray.specs.Meaning.{runOf, runsOf, recordBytes, recordsBytes, countsBytes, runsBytes, trayBytes, total, FitsRecord, Fits}
 use Rattle.tray.specs.Meaning.Laws.{runIn}
-use Rattle.tray.specs.Meaning.Parts.{part-next}
 
 pub length-recordBytes : (e : Record) → length (recordBytes e) ≡ 25
 unfolding recordBytes
@@ -76,10 +76,10 @@ pub records-read : (es : List Record) (i : ℕ) (run z : List ℕ) → All FitsR
 unfolding listed recordsBytes
 records-read [] i run z fits e = refl
 records-read (a ∷ es) i run z fits e =
-    let here : drop (25 * i) run ≡ recordBytes a ++ (recordsBytes es ++ z) = rw append-assoc at e in
+    let stands : drop (25 * i) run ≡ recordBytes a ++ (recordsBytes es ++ z) = rw append-assoc at e in
     let next : drop (25 * suc i) run ≡ recordsBytes es ++ z =
-    part-next (25 * i) (25 * suc i) run (recordBytes a) here (length-recordBytes a) (omega arith) in
-    let first = record-read a (25 * i) run _ (fits a (List·Memᴰ·head refl)) here in
+    part-next (25 * i) (25 * suc i) run (recordBytes a) stands (length-recordBytes a) (omega arith) in
+    let first = record-read a (25 * i) run _ (fits a here) stands in
     let others = records-read es (suc i) run z (all-tail fits) next in
     cc
 
@@ -104,13 +104,13 @@ module _ (t : List ℕ) where
   runs-read [] i y z few fits c e = refl
   runs-read (r ∷ rs) i y z few fits c e =
       let counted : drop (4 + 2 * i) t ≡ bytesOf 2 (length r) ++ (countsBytes rs ++ y) = rw append-assoc at c in
-      let here : drop (startOf t i) t ≡ recordsBytes r ++ (runsBytes rs ++ z) = rw append-assoc at e in
-      let count : countOf t i ≡ length r = count-read (length r) i _ (few r (List·Memᴰ·head refl)) counted in
+      let stands : drop (startOf t i) t ≡ recordsBytes r ++ (runsBytes rs ++ z) = rw append-assoc at e in
+      let count : countOf t i ≡ length r = count-read (length r) i _ (few r here) counted in
       let long : length (recordsBytes r) ≡ 25 * countOf t i = rw count (length-recordsBytes r) in
-      let bytes : runBytes t i ≡ recordsBytes r = runBytes-read (recordsBytes r) _ i long here in
-      let first : runIn t i ≡ r = rw (count, bytes) (run-read r (fits r (List·Memᴰ·head refl))) in
+      let bytes : runBytes t i ≡ recordsBytes r = runBytes-read (recordsBytes r) _ i long stands in
+      let first : runIn t i ≡ r = rw (count, bytes) (run-read r (fits r here)) in
       let counted-next = part-next (4 + 2 * i) (4 + 2 * suc i) t (bytesOf 2 (length r)) counted (length-bytesOf 2 (length r)) (omega arith) in
-      let next = part-next (startOf t i) (startOf t (suc i)) t (recordsBytes r) here long (startOf-next t i) in
+      let next = part-next (startOf t i) (startOf t (suc i)) t (recordsBytes r) stands long (startOf-next t i) in
       let others = runs-read rs (suc i) y z (all-tail few) (all-tail fits) counted-next next in
       cc
 

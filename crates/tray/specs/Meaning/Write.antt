@@ -13,14 +13,15 @@ use mathlib.Core.List.{List, [], _∷_, _++_}
 use lib.ListN.{length, take, drop}
 use lib.Seq.{drop-drop, drop-cons, take-add}
 use Rattle.number.specs.Big.{bytesOf, Bytes}
-use Rattle.number.specs.Big.Laws.{bytesOf-be}
+use Rattle.number.specs.Big.Laws.{bytesOf-be, bytes-take, bytes-drop}
+use Rattle.theory.specs.Lists.{part-on, part-end}
+use Rattle.theory.specs.Listed.Laws.{laid}
 use Rattle.tray.specs.Frame.{runCount, countOf, startOf, runBytes, Framed}
 use Rattle.tray.specs.Frame.Laws.{startOf-zero, startOf-next, startOf-within, length-run}
 use Rattle.tray.specs.Run.{recordFrom, recordAt}
 use Rattle.tray.specs.Check.{Sound}
 use Rattle.tray.specs.Meaning.{runOf, runsOf, recordBytes, recordsBytes, countsBytes, runsBytes, trayBytes}
 use Rattle.tray.specs.Meaning.Laws.{runIn, length-runOf, length-runsOf}
-use Rattle.tray.specs.Meaning.Parts.{part-on, part-end, bytes-take, bytes-drop, laid}
 
 pub record-back : (s : List ℕ) (at : ℕ) → Bytes s → at + 25 ≤ length s → recordBytes (recordFrom s at) ≡ take 25 (drop at s)
 unfolding recordBytes recordFrom

@@ -3,20 +3,19 @@
 --     kind-live, kind-gone, kind-other   a record's kind, told by its byte
 --     Last, last-none, last-more         the key before a place
 --     key-fine, key-bad                  a key, told by the last one
---     run-kind, run-key, run-next, last-next    a turn of the loop over a run
+--     key-is, run-kind, run-key, run-next, last-next    a turn of the loop over a run
 -- Assumes nothing.
 use mathlib.Core.Path.{_≡_, refl, sym, ap, _∙_}
 use Prim.Native.Nat.{ℕ, zero, suc, _+_, _-_, _*_, _≤_, _<_}
 use native.Mathlib.Omega.{arith}
-use native.Mathlib.Numerals.{add-one}
-use mathlib.Core.Bool.{Bool, true, false, not, _||_, _&&_}
+use mathlib.Core.Bool.{Bool, true, false, not, _||_}
 use mathlib.Core.List.{List}
 use lib.ListN.{getD}
-use lib.Dec.{leb, ltb, eqb}
-use borrow.Author.Tests.{le-leb, lt-leb, ltb-true, ltb-false, le-ltb, lt-ltb, eqb-true, eqb-false, ne-eqb, not-true, not-false}
+use lib.Dec.{ltb, eqb}
+use borrow.Author.Tests.{le-leb, lt-leb, ltb-true, ltb-false, le-ltb, lt-ltb, eqb-true, eqb-false, eq-eqb, ne-eqb, not-true, not-false}
 use Rattle.number.specs.Big.{be}
 use Rattle.number.specs.Big.Laws.{be-add}
-use Rattle.theory.specs.Rising.Laws.{cases, clash}
+use Rattle.theory.specs.Tests.{cases, clash, or-left, or-right}
 use Rattle.tray.specs.declared.run.RunAnswer.the-variants.{WrongKind, WrongKey}
 use Rattle.tray.specs.Run.{recordFrom, recordAt, kindWrong, keyWrong, place, judgeFrom}
 use Rattle.tray.specs.Run.Laws.{judge-kind, judge-key, judge-next}
@@ -75,19 +74,11 @@ module _ (run : List ℕ) where
 
   pub key-bad : (p : ℕ) {last key : ℕ} → key ≡ recordAt run p .key → Last p last → (ltb last key || eqb p 0) ≡ false → keyWrong run p ≡ true
   unfolding keyWrong
-  key-bad zero {last} {key} h l t = out (ltb last key) t
-    where
-      out : (b : Bool) → (b || eqb 0 0) ≡ false → false ≡ true
-      out true e = sym e
-      out false e = sym e
+  key-bad zero {last} {key} h l t = clash (eq-eqb 0 0 refl) (or-right (ltb last key) _ t)
   key-bad (suc q) {last} {key} h l t =
       let e : last ≡ recordAt run q .key = l q refl in
-      let k : key ≤ last = ltb-false last key (plain (ltb last key) t) in
+      let k : key ≤ last = ltb-false last key (or-left _ _ t) in
       le-leb (recordAt run (suc q) .key) (recordAt run q .key) (omega arith)
-    where
-      plain : (b : Bool) → (b || eqb (suc q) 0) ≡ false → b ≡ false
-      plain true e = e
-      plain false e = refl
 
   -- the loop stands at place p, which starts at byte `at`; kr and yr are what the two tests answered
   module _ {n p at : ℕ} {kr : Bool} (l : p < n) (stands : at ≡ 25 * p) (told : kr ≡ not (kindWrong (recordFrom run at))) where

@@ -1,20 +1,20 @@
 -- Laws of judging a run.
 --     judge-end, judge-kind, judge-key, judge-next    how a loop over places from 0 to n ends and goes on
---     Judged, judged                                  what the answer says of the run
+--     Fine, Judged, judged                            what the answer says of the run
 --     fine-sound, sound-fine                          a record that is not wrong is sound, and the other way round
---     key-rises, rises-key                            a key that is not wrong is above the one before it
+--     key-rises, rises-key, first-key                 a key that is not wrong is above the one before it, if there is one
 -- Assumes nothing.
-use mathlib.Core.Path.{_≡_, refl, sym, ap, _∙_, subst}
-use mathlib.Core.Logic.{_⊎_, inl, inr, ⊎-elim}
-use Prim.Native.Nat.{ℕ, zero, suc, _+_, _-_, _*_, _≤_, _<_}
+use mathlib.Core.Path.{_≡_, refl, subst}
+use mathlib.Core.Logic.{⊎-elim}
+use Prim.Native.Nat.{ℕ, zero, suc, _+_, _-_, _≤_, _<_}
 use native.Mathlib.Omega.{arith}
 use native.Mathlib.Numerals.{add-one}
 use native.Mathlib.Nat.{eq-or-lt-of-le}
 use mathlib.Core.Bool.{Bool, true, false, cond, _&&_, _||_}
 use mathlib.Core.List.{List}
-use lib.Dec.{leb, ltb, eqb}
-use borrow.Author.Tests.{leb-true, leb-false, le-leb, lt-leb, ltb-true, ltb-false, le-ltb, lt-ltb, eqb-true, eqb-false, eq-eqb, ne-eqb}
-use Rattle.theory.specs.Rising.Laws.{cases, clash}
+use lib.Dec.{ltb, eqb}
+use borrow.Author.Tests.{leb-false, lt-leb, ltb-false, le-ltb, eqb-true, eq-eqb}
+use Rattle.theory.specs.Tests.{clash, or-left, or-right}
 use Rattle.theory.specs.Records.{Record, SoundRecord}
 use Rattle.tray.specs.declared.run.RunAnswer.{RunAnswer}
 use Rattle.tray.specs.declared.run.RunAnswer.the-variants.{Right, WrongKind, WrongKey}
@@ -71,15 +71,6 @@ module _ (run : List ℕ) where
       go true k w e next = kind-at p (omega arith) (omega arith) (λ i l h. absurd (omega arith)) k
       go false k true e next = key-at p (omega arith) (omega arith) (λ i l h. absurd (omega arith)) k e
       go false k false e next = judged-more (record { kind = k; key = e }) next
-
--- either part of a test
-or-left : (a b : Bool) → (a || b) ≡ false → a ≡ false
-or-left true b h = h
-or-left false b h = refl
-
-or-right : (a b : Bool) → (a || b) ≡ false → b ≡ false
-or-right true b h = clash refl h
-or-right false b h = h
 
 pub fine-sound : (e : Record) → kindWrong e ≡ false → SoundRecord e
 unfolding kindWrong

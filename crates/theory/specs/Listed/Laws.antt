@@ -1,24 +1,23 @@
 -- Laws of `listed`: f at the n numbers from i on.
---     length-listed                              it has n members
---     Listed, listed-mem, mem-listed             its members are f at these numbers
---     all-listed                                 so a property at each number is one of all members
---     getElem?-listed, getElem?-listed-past      the member at a place, and none past the last
---     runAt-some, runAt-none                     the same as a run, or no record
---     listed-same, listed-ext                    two that agree number by number are equal
---     Steps, rises-listed, listed-rises          it rises exactly when each member is below the next one
+--     length-listed                       it has n members
+--     Listed, listed-mem, mem-listed      its members are f at these numbers
+--     all-listed                          so a property at each number is one of all members
+--     getElem?-listed, getElem?-listed-past    the member at a place, and none past the last
+--     listed-same                         two that agree number by number are equal
+--     Steps, rises-listed, listed-rises   it rises exactly when each member is below the next one
+--     laid                                members read from a list and laid end to end again are a part of it
 -- Assumes nothing.
 use mathlib.Core.Path.{_≡_, refl, sym, ap, subst}
 use mathlib.Core.Logic.{⊎-elim}
-use mathlib.Core.Option.{none, some}
+use mathlib.Core.Option.{some, none as none-there}
 use Prim.Native.Nat.{ℕ, zero, suc, _+_, _≤_, _<_}
 use native.Mathlib.Nat.{add-zero, add-suc, suc-add, eq-or-lt-of-le}
 use native.Mathlib.Omega.{arith}
-use mathlib.Core.List.{List, [], _∷_, List·Memᴰ·head, List·Memᴰ·tail, List·Memᴰ·not-nil, List·Memᴰ·cases-cons}
-use lib.ListN.{length, getElem?}
-use Rattle.theory.specs.Rising.{Mem, All, Rises, more}
-use Rattle.theory.specs.Rising
-use Rattle.theory.specs.View.{runAt}
-use Rattle.tray.specs.Meaning.{listed}
+use mathlib.Core.List.{List, [], _∷_, _++_, append-assoc, List·Memᴰ·head, List·Memᴰ·tail, List·Memᴰ·not-nil, List·Memᴰ·cases-cons}
+use lib.ListN.{length, getElem?, drop}
+use Rattle.theory.specs.Lists.{all-nil, all-cons}
+use Rattle.theory.specs.Rising.{Mem, All, Rises, none, more}
+use Rattle.theory.specs.Listed.{listed}
 
 module _ {A : Type 0} where
   pub length-listed : (n i : ℕ) (f : ℕ → A) → length (listed n i f) ≡ n
@@ -47,7 +46,8 @@ module _ {A : Type 0} where
   unfolding listed
   mem-listed zero i f j l h = absurd (omega arith)
   mem-listed (suc n) i f j l h =
-      ⊎-elim (λ e. List·Memᴰ·head (ap f (sym e))) (λ k. List·Memᴰ·tail (mem-listed n (suc i) f j k (omega arith))) (eq-or-lt-of-le l)
+      ⊎-elim (λ e. List·Memᴰ·head (ap f (sym e))) (λ k. List·Memᴰ·tail (mem-listed n (suc i) f j k (omega arith)))
+      (eq-or-lt-of-le l)
 
   pub all-listed : (P : A → Type 0) (n i : ℕ) (f : ℕ → A) → ((j : ℕ) → i ≤ j → j < i + n → P (f j)) → All P (listed n i f)
   all-listed P n i f h x m = let l = listed-mem n i f m in subst P (sym (l .is)) (h (l .number) (l .low) (l .high))
@@ -58,13 +58,14 @@ module _ {A : Type 0} where
   getElem?-listed (suc n) i f zero h = rw add-zero
   getElem?-listed (suc n) i f (suc j) h = rw (getElem?-listed n (suc i) f j (omega arith), add-suc, suc-add)
 
-  pub getElem?-listed-past : (n i : ℕ) (f : ℕ → A) (j : ℕ) → n ≤ j → getElem? (listed n i f) j ≡ none
+  -- past the last member there is none
+  pub getElem?-listed-past : (n i : ℕ) (f : ℕ → A) (j : ℕ) → n ≤ j → getElem? (listed n i f) j ≡ none-there
   unfolding listed
   getElem?-listed-past zero i f j h = refl
   getElem?-listed-past (suc n) i f zero h = absurd (omega arith)
   getElem?-listed-past (suc n) i f (suc j) h = getElem?-listed-past n (suc i) f j (omega arith)
 
-  -- each from a number of its own
+  -- two that agree number by number are equal, each from a number of its own
   pub listed-same : (n i k : ℕ) (f g : ℕ → A) → ((j : ℕ) → j < n → f (i + j) ≡ g (k + j)) → listed n i f ≡ listed n k g
   unfolding listed
   listed-same zero i k f g h = refl
@@ -74,21 +75,6 @@ module _ {A : Type 0} where
       listed-same n (suc i) (suc k) f g (λ j l. simp (suc-add, ← add-suc) (h (suc j) (omega arith))) in
       cc
 
-  pub listed-ext : (n i : ℕ) (f g : ℕ → A) → ((j : ℕ) → i ≤ j → j < i + n → f j ≡ g j) → listed n i f ≡ listed n i g
-  listed-ext n i f g h = listed-same n i i f g (λ j l. h (i + j) (omega arith) (omega arith))
-
-  pub runAt-some : (rs : List (List A)) (j : ℕ) {r : List A} → getElem? rs j ≡ some r → runAt rs j ≡ r
-  unfolding runAt
-  runAt-some [] j e = let z : _≡_ {A = ℕ} 0 1 = cc in absurd (omega arith)
-  runAt-some (a ∷ rs) zero e = cc
-  runAt-some (a ∷ rs) (suc j) e = runAt-some rs j e
-
-  pub runAt-none : (rs : List (List A)) (j : ℕ) → getElem? rs j ≡ none → runAt rs j ≡ []
-  unfolding runAt
-  runAt-none [] j e = refl
-  runAt-none (a ∷ rs) zero e = let z : _≡_ {A = ℕ} 0 1 = cc in absurd (omega arith)
-  runAt-none (a ∷ rs) (suc j) e = runAt-none rs j e
-
   module _ (key : A → ℕ) where
     -- each member is below the next one
     abbrev pub Steps : ℕ → ℕ → (ℕ → A) → Type 0
@@ -97,21 +83,34 @@ module _ {A : Type 0} where
     -- so the one before them is below them all
     above-listed : (n i : ℕ) (f : ℕ → A) → Steps (suc n) i f → All (λ b. key (f i) < key b) (listed n (suc i) f)
     unfolding listed
-    above-listed zero i f h b m = absurd (List·Memᴰ·not-nil m)
-    above-listed (suc n) i f h b m =
+    above-listed zero i f h = all-nil _
+    above-listed (suc n) i f h =
         let first : key (f i) < key (f (suc i)) = h i (omega arith) (omega arith) in
-        ⊎-elim (λ e. let z : key b ≡ key (f (suc i)) = ap key e in omega arith)
-        (λ k. let z : key (f (suc i)) < key b = above-listed n (suc i) f (λ j l u. h j (omega arith) (omega arith)) b k in omega arith)
-        (List·Memᴰ·cases-cons m)
+        let others = above-listed n (suc i) f (λ j l u. h j (omega arith) (omega arith)) in
+        all-cons first (λ b m. omega (arith, others b m))
 
     pub rises-listed : (n i : ℕ) (f : ℕ → A) → Steps n i f → Rises key (listed n i f)
     unfolding listed
-    rises-listed zero i f h = Rising.none
+    rises-listed zero i f h = none
     rises-listed (suc n) i f h = more (above-listed n i f h) (rises-listed n (suc i) f (λ j l u. h j (omega arith) (omega arith)))
 
     pub listed-rises : (n i : ℕ) (f : ℕ → A) → Rises key (listed n i f) → Steps n i f
     unfolding listed
     listed-rises zero i f r j l u = absurd (omega arith)
     listed-rises (suc n) i f (more h r) j l u =
-        ⊎-elim (λ e. subst (λ k. key (f k) < key (f (suc k))) e (h (f (suc i)) (mem-listed n (suc i) f (suc i) (omega arith) (omega arith))))
+        let next = mem-listed n (suc i) f (suc i) (omega arith) (omega arith) in
+        ⊎-elim (λ e. subst (λ k. key (f k) < key (f (suc k))) e (h (f (suc i)) next))
         (λ k. listed-rises n (suc i) f r j k (omega arith)) (eq-or-lt-of-le l)
+
+-- `flat` lays what `one` makes of each member end to end: members read from s, each from its own place up to the place of the next one
+pub laid : {A B : Type 0} (one : A → List B) (flat : List A → List B)
+    → flat [] ≡ [] → ((a : A) (xs : List A) → flat (a ∷ xs) ≡ one a ++ flat xs)
+    → (s : List B) (f : ℕ → A) (at : ℕ → ℕ) (n i : ℕ)
+    → ((j : ℕ) → i ≤ j → j < i + n → one (f j) ++ drop (at (suc j)) s ≡ drop (at j) s)
+    → flat (listed n i f) ++ drop (at (i + n)) s ≡ drop (at i) s
+unfolding listed
+laid one flat flat-nil flat-cons s f at zero i h = rw (flat-nil, add-zero)
+laid one flat flat-nil flat-cons s f at (suc n) i h =
+    let others : flat (listed n (suc i) f) ++ drop (at (i + suc n)) s ≡ drop (at (suc i)) s =
+    rw (add-suc, ← suc-add) (laid one flat flat-nil flat-cons s f at n (suc i) (λ j l u. h j (omega arith) (omega arith))) in
+    rw (flat-cons, append-assoc, others) (h i (omega arith) (omega arith))
