@@ -1,4 +1,5 @@
 -- Check index's answer for every input (document 01, order 1, 3/2, 4, 5), and what the table says of it. Assumes nothing.
+mod Cases
 pub mod Code
 pub mod Laws
 pub mod Theorems

@@ -7,3 +7,5 @@ pub mod Rules
 pub mod Scan
 -- check index's answer, and the table's lines for it
 pub mod Check
+-- an index for worked cases
+pub mod Sample

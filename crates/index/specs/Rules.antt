@@ -1,5 +1,6 @@
 -- When a segment is right and an index accepted (document 01, "The index", the five rules in its words). Segments are judged from 0 on:
 -- `before` are the records of the view in earlier segments, `own` the segment's own, `after` what is left. Assumes nothing.
+mod Cases
 pub mod Cuts
 pub mod Laws
 use Prim.Native.Nat.{ℕ, _+_, _≤_, _<_}

@@ -1,0 +1,8 @@
+// Folding neighbouring runs into one (document 01, "Folding").
+use refusal::Refusal;
+
+// How many bytes were written, or why none were.
+pub enum FoldAnswer {
+    Written(u64),
+    Refused(Refusal),
+}
