@@ -18,6 +18,13 @@ pub fn wide32(x: u8) -> u32
     x as u32
 }
 
+// The byte, as 64 bits.
+pub fn wide64(x: u8) -> u64
+    ensures { λ r. ⌜ r ≡ x ⌝ }
+{
+    x as u64
+}
+
 // The number of 32 bits, as 64.
 pub fn wide_32(x: u32) -> u64
     ensures { λ r. ⌜ r ≡ x ⌝ }

@@ -1,0 +1,2 @@
+-- What the builder writes, byte for byte, and its answer for every input.
+pub mod Build

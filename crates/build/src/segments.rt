@@ -1,0 +1,81 @@
+// All segments: counted, and written each into its own stretch of the output.
+use crate::heads::fill_keys;
+use crate::segment::write_segment;
+use index::SegmentNo;
+use index::frame::segment_at;
+use number::wide_size;
+use tray::frame::TrayFrame;
+ghost use mathlib.Core.Path.{_≡_};
+ghost use mathlib.Core.List.{[]};
+ghost use Prim.Native.Nat.{_≤_};
+ghost use lib.ListN.{length};
+ghost use Rattle.number.specs.Big.{put};
+ghost use Rattle.tray.specs.Meaning.{runsOf};
+ghost use Rattle.build.specs.Build.{cuts, segmentsBytes, indexSize};
+ghost use Rattle.build.specs.Build.Code.{Sounded};
+
+// How many segments there are. Each is written into the same stretch, and the output stays as it is.
+pub fn count_segments(t: &[u8], d: u8, f: TrayFrame, n: u64) -> u32
+    requires { ⌜ Sounded (now t) d f n ⌝ }
+    ensures { λ s. ⌜ s ≡ length (cuts d (runsOf (now (t .entry)))) ⌝ }
+{
+    let h = f.runs;
+    let counts = f.counts;
+    let starts = f.starts;
+    let mut places = [0u16; 63];
+    let mut keys = [18446744073709551615u64; 64];
+    let mut stretch = [0u8; 262];
+    fill_keys(t, h, &counts, &starts, &places, &mut keys);
+    let w = 8 + 2 * wide_size(h) + wide_size(d);
+    let mut left = n;
+    let mut g: u32 = 0;
+    while 0 < left {
+        let k = write_segment(
+            t,
+            h,
+            d,
+            &counts,
+            &starts,
+            &mut places,
+            &mut keys,
+            &mut stretch[..w],
+        );
+        left -= k as u64;
+        g += 1;
+    }
+    g
+}
+
+// The segments, from byte 8 on: how many.
+pub fn write_segments(t: &[u8], d: u8, f: TrayFrame, n: u64, out: &mut [u8]) -> u32
+    requires { ⌜ Sounded (now t) d f n ⌝ }
+    requires { ⌜ indexSize d (runsOf (now t)) ≤ length (now out) ⌝ }
+    ensures { λ s. ⌜ s ≡ length (cuts d (runsOf (now (t .entry)))) ⌝ }
+    ensures { λ _. ⌜ now (out .exit) ≡ put (now (out .entry)) 8 (segmentsBytes d (runsOf (now (t .entry))) [] (cuts d (runsOf (now (t .entry))))) ⌝ }
+{
+    let h = f.runs;
+    let counts = f.counts;
+    let starts = f.starts;
+    let mut places = [0u16; 63];
+    let mut keys = [18446744073709551615u64; 64];
+    fill_keys(t, h, &counts, &starts, &places, &mut keys);
+    let mut left = n;
+    let mut g: u32 = 0;
+    while 0 < left {
+        let a = segment_at(SegmentNo(g), h, d);
+        let e = segment_at(SegmentNo(g + 1), h, d);
+        let k = write_segment(
+            t,
+            h,
+            d,
+            &counts,
+            &starts,
+            &mut places,
+            &mut keys,
+            &mut out[a..e],
+        );
+        left -= k as u64;
+        g += 1;
+    }
+    g
+}

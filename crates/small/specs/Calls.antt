@@ -1,0 +1,87 @@
+-- What the library's definitions give for runs and a D: each call with all that it computes by, so that to unfold it here is to unfold them.
+-- Assumes nothing.
+use Prim.Native.Nat.{ℕ}
+use mathlib.Core.List.{List, [], _∷_, _++_, map}
+use lib.ListN.{length, replicate}
+use Rattle.number.specs.Big.{be, bytesOf, put}
+use Rattle.refusal.specs.Table.{verdictOf}
+use Rattle.refusal.specs.declared.Verdict.{Verdict}
+use Rattle.theory.specs.Rising.{any, insert, insertAll}
+use Rattle.theory.specs.Listed.{listed}
+use Rattle.theory.specs.Records.{Record}
+use Rattle.theory.specs.Merge.{hidden}
+use Rattle.theory.specs.View.{spread, entriesFrom, view, old}
+use Rattle.theory.specs.Places.{count}
+use Rattle.theory.specs.Pack.{joined, grouped, groups, packOn, pack}
+use Rattle.tray.specs.declared.check.TrayAnswer.{TrayAnswer}
+use Rattle.tray.specs.declared.check.TrayAnswer.the-variants.{Records, Refused as TrayRefused}
+use Rattle.tray.specs.Frame.{runCount, countOf, recordsBefore, startOf, runBytes, headerFits, countsFit, framed}
+use Rattle.tray.specs.Run.{recordFrom, kindWrong, keyWrong, judgeFrom}
+use Rattle.tray.specs.Check.{afterRun, checkRuns, checkTray}
+use Rattle.tray.specs.Meaning.{runOf, runsOf, recordBytes, recordsBytes, countsBytes, runsBytes, trayBytes}
+use Rattle.index.specs.declared.check.IndexAnswer.{IndexAnswer}
+use Rattle.index.specs.declared.check.IndexAnswer.the-variants.{Segments, Refused as IndexRefused}
+use Rattle.index.specs.Layout.{sizeOf, segmentCount, headSize, segmentAt, Segment, indexFramed}
+use Rattle.index.specs.Rules.{selectorOf}
+use Rattle.index.specs.Scan.{marked, raise, begins, joins, offsetsHold, onlyPlaceholders, nextIn, hasNext, headsAbove, usedUp, names, closed, following, selectorsScan, segmentScan, scanFrom}
+use Rattle.index.specs.Check.{afterScan, judgeIndex, framedIndex, afterTray, checkIndex}
+use Rattle.build.specs.declared.BuildAnswer.{BuildAnswer}
+use Rattle.build.specs.declared.BuildAnswer.the-variants.{Written, Refused as BuildRefused}
+use Rattle.build.specs.Build.{cuts, anchorOf, offsetsBytes, segmentBytes, segmentsBytes, indexBytes, indexSize, sizeFits, afterCheck, build, leaves}
+use Rattle.small.specs.Rows.{accepted}
+
+-- what a call gives: its answer as number and figure, and what it leaves in its output, if it has one
+pub record Given : Type 0 where
+  pub answer : Verdict
+  pub output : List ℕ
+
+-- a call without output
+abbrev pub gives : Verdict → Given
+gives v = record { answer = v; output = [] }
+
+-- build's output before the call
+abbrev pub room : List ℕ
+room = replicate 200 0xaa
+
+-- the bytes of an index that is given by its segments: with segments of d, for h runs
+abbrev pub bytesOfSegment : Segment → List ℕ
+bytesOfSegment s = bytesOf 8 (s .anchor) ++ (joined (map (bytesOf 2) (s .offsets)) ++ s .selectors)
+
+unfoldable pub bytesOfIndex : ℕ → ℕ → List Segment → List ℕ
+unfolding joined bytesOf
+bytesOfIndex h d ss = (h ∷ d ∷ 0 ∷ 0 ∷ []) ++ (bytesOf 4 (length ss) ++ joined (map bytesOfSegment ss))
+
+-- answers as number and figure
+abbrev pub trayVerdict : TrayAnswer → Verdict
+trayVerdict (Records n) = accepted n
+trayVerdict (TrayRefused r) = verdictOf r
+
+abbrev pub indexVerdict : IndexAnswer → Verdict
+indexVerdict (Segments n) = accepted n
+indexVerdict (IndexRefused r) = verdictOf r
+
+abbrev pub buildVerdict : BuildAnswer → Verdict
+buildVerdict (Written n) = accepted n
+buildVerdict (BuildRefused r) = verdictOf r
+
+-- check tray
+unfoldable pub checks : List (List Record) → Given
+unfolding trayBytes countsBytes runsBytes recordsBytes recordBytes bytesOf
+    checkTray checkRuns afterRun judgeFrom kindWrong keyWrong recordFrom framed headerFits countsFit runCount countOf recordsBefore startOf runBytes be
+checks runs = gives (trayVerdict (checkTray (trayBytes runs)))
+
+-- check index, for an index that is given by its segments
+unfoldable pub judged : List (List Record) → ℕ → List Segment → Given
+unfolding checks bytesOfIndex
+    checkIndex afterTray framedIndex judgeIndex afterScan scanFrom segmentScan selectorsScan following closed names usedUp headsAbove hasNext nextIn
+    onlyPlaceholders offsetsHold joins begins raise marked indexFramed segmentAt headSize segmentCount sizeOf
+judged runs d ss = gives (indexVerdict (checkIndex (trayBytes runs) (bytesOfIndex (length runs) d ss)))
+
+-- build
+unfoldable pub built : List (List Record) → ℕ → Given
+unfolding checks
+    leaves build afterCheck sizeFits indexSize segmentAt headSize indexBytes segmentsBytes segmentBytes offsetsBytes anchorOf cuts selectorOf put
+    runsOf runOf listed joined count pack packOn groups grouped view entriesFrom spread insertAll insert old hidden any
+built runs d =
+    let a = build (trayBytes runs) d (length room) in
+    record { answer = buildVerdict a; output = leaves (trayBytes runs) d room a }
