@@ -1,80 +1,58 @@
+-- `build::build_sound` meets its contract: where the room is surely enough, or is after counting, the index is written. Assumes nothing.
 use Rattle.build.specs.Build.Code.Answers.{size-is, records-low, part-low, most-room, answer-fits, answer-short, leaves-index, leaves-same}
 use Rattle.tray.specs.Meaning.{runsOf}
 use Rattle.number.proofs.Known.{bytes-known}
-use mathlib.Core.Path.{_≡_, refl, sym, ap, _∙_}
 use Prim.Native.Nat.{_+_}
 use native.Mathlib.Omega.{arith}
 use borrow.Author.Needs.{needs}
 use Rattle.build.proofs.build_sound.Statement.{statement}
 use Rattle.build.proofs.build_sound.Tie as tie
-use Rattle.build.proofs.build_sound.Reads as reads
-use Rattle.build.proofs.build_sound.Lts as lts
-use Rattle.build.proofs.segments.count_segments.Reads as count-segments-reads
-use Rattle.build.proofs.write_index.Reads as write-index-reads
-use Rattle.index.proofs.frame.segment_at.Reads as segment-at-reads
-use Rattle.number.proofs.wide64.Reads as wide64-reads
 
--- src/lib.rt:65:26
 wide64-requires : tie.Need-wide64-requires
 wide64-requires c κs = search needs
 
--- src/lib.rt:65:26
 add-most : tie.Need-add-most
 add-most c = omega arith
 
--- src/lib.rt:65:21
 div-most : tie.Need-div-most
 div-most c = search needs
 
--- src/lib.rt:65:16
 mul-most : tie.Need-mul-most
 mul-most c = omega (arith, part-low (c .before .before .before .args .n) (c .wide64 .result + 1) (records-low (c .before .before .before .pre) (bytes-known (c .before .before .before .args .t .now) (c .before .before .shared-slice-known .given))))
 
--- src/lib.rt:65:16
 add-most-2 : tie.Need-add-most-2
 add-most-2 c = omega (arith, part-low (c .before .before .before .args .n) (c .wide64 .result + 1) (records-low (c .before .before .before .pre) (bytes-known (c .before .before .before .args .t .now) (c .before .before .shared-slice-known .given))))
 
--- src/lib.rt:66:29
 cast-t14 : tie.Need-cast-t14
 cast-t14 c = omega (arith, part-low (c .before .before .before .args .n) (c .wide64 .result + 1) (records-low (c .before .before .before .pre) (bytes-known (c .before .before .before .args .t .now) (c .before .before .shared-slice-known .given))))
 
--- src/lib.rt:66:8
 segment-at-requires : tie.Need-segment-at-requires
 segment-at-requires c κs = search needs
 
--- src/lib.rt:67:37
 write-index-requires : tie.Need-write-index-requires
 write-index-requires c κs = (c .before .before .before .before .before .before .pre, (most-room (c .before .before .before .before .before .before .pre) (c .before .before .before .before .before .before .pre .opened .runs) (c .before .before .before .wide64 .ensures) (c .before .before .segment-at .ensures) (c .before .if1 .taken)))
 
--- src/lib.rt:67:9
 same-length : tie.Need-same-length
 same-length c = omega (arith, c .before .before .write-index .kept)
 
--- src/lib.rt:67:9
 returns : tie.Need-returns
 returns c = (answer-fits (c .before .before .before .before .before .before .before .before .before .args .d) (runsOf (c .before .before .before .before .before .before .before .before .before .args .t .now)) (c .before .before .write-index .ensures .0) (most-room (c .before .before .before .before .before .before .before .before .before .pre) (c .before .before .before .before .before .before .before .before .before .pre .opened .runs) (c .before .before .before .before .before .before .wide64 .ensures) (c .before .before .before .before .before .segment-at .ensures) (c .before .before .before .before .if1 .taken)), leaves-index (c .before .before .before .before .before .before .before .before .before .args .t .now) (c .before .before .before .before .before .before .before .before .before .args .out .now) (c .before .before .before .before .before .before .before .before .before .args .d) _ (c .before .before .write-index .ensures .1))
 
--- src/lib.rt:69:37
 count-segments-requires : tie.Need-count-segments-requires
 count-segments-requires c κs = c .before .before .before .before .before .pre
 
--- src/lib.rt:69:9
 segment-at-requires-2 : tie.Need-segment-at-requires-2
 segment-at-requires-2 c κs = search needs
 
--- src/lib.rt:71:37
 write-index-requires-2 : tie.Need-write-index-requires-2
 write-index-requires-2 c κs = (c .before .before .before .before .before .before .before .before .before .pre, omega (arith, (size-is (c .before .before .before .before .before .before .before .before .before .args .t .now) (c .before .before .before .before .before .before .before .before .before .args .d) (c .before .before .before .before .before .before .before .before .before .pre .opened .runs) (c .before .before .before .count-segments .ensures) (c .before .before .segment-at2 .ensures)), c .before .if2))
 
--- src/lib.rt:71:9
 same-length-2 : tie.Need-same-length-2
 same-length-2 c = omega (arith, c .before .before .write-index2 .kept)
 
--- src/lib.rt:71:9
 returns-2 : tie.Need-returns-2
 returns-2 c = (answer-fits (c .before .before .before .before .before .before .before .before .before .before .before .before .args .d) (runsOf (c .before .before .before .before .before .before .before .before .before .before .before .before .args .t .now)) (c .before .before .write-index2 .ensures .0) (omega (arith, (size-is (c .before .before .before .before .before .before .before .before .before .before .before .before .args .t .now) (c .before .before .before .before .before .before .before .before .before .before .before .before .args .d) (c .before .before .before .before .before .before .before .before .before .before .before .before .pre .opened .runs) (c .before .before .before .before .before .before .count-segments .ensures) (c .before .before .before .before .before .segment-at2 .ensures)), c .before .before .before .before .if2)), leaves-index (c .before .before .before .before .before .before .before .before .before .before .before .before .args .t .now) (c .before .before .before .before .before .before .before .before .before .before .before .before .args .out .now) (c .before .before .before .before .before .before .before .before .before .before .before .before .args .d) _ (c .before .before .write-index2 .ensures .1))
 
--- src/lib.rt:59:1
 returns-3 : tie.Need-returns-3
 returns-3 c = (answer-short (c .before .before .before .before .before .before .before .before .args .d) (runsOf (c .before .before .before .before .before .before .before .before .args .t .now)) (size-is (c .before .before .before .before .before .before .before .before .args .t .now) (c .before .before .before .before .before .before .before .before .args .d) (c .before .before .before .before .before .before .before .before .pre .opened .runs) (c .before .before .count-segments .ensures) (c .before .segment-at2 .ensures)) (c .if2 .left), leaves-same _ _ _ _)
 

@@ -4,7 +4,9 @@ pub mod Answers
 pub mod Draws
 pub mod Filled
 pub mod Heads
+pub mod Loops
 pub mod Merge
+pub mod Runs
 pub mod Segments
 pub mod Spelled
 pub mod Versions

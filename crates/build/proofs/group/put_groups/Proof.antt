@@ -1,14 +1,10 @@
+-- `build::group::put_groups` meets its contract. Invariant: what is written from here on is written from the start on. Measure: the room left.
+-- Assumes nothing.
 use Rattle.build.specs.Build.Code.Versions.{Filling, filling-none, filling-more, filling-all}
-use lib.ListN.{length, length-set}
-use mathlib.Core.Path.{_≡_, refl, sym, ap, _∙_}
-use Prim.Native.Nat.{_≤_, _-_}
+use Prim.Native.Nat.{_-_}
 use native.Mathlib.Omega.{arith}
-use borrow.Author.Needs.{needs}
 use Rattle.build.proofs.group.put_groups.Statement.{statement}
 use Rattle.build.proofs.group.put_groups.Tie as tie
-use Rattle.build.proofs.group.put_groups.Reads as reads
-use Rattle.build.proofs.group.put_groups.Lts as lts
-use Rattle.build.proofs.group.put_next.Reads as put-next-reads
 
 abbrev Inv-loop : tie.InvT-loop
 Inv-loop t h counts starts seg₀ from to places₀ keys₀ at₀ seg places keys at = Filling t counts starts h from to places₀ seg₀ places keys seg at
@@ -16,39 +12,30 @@ Inv-loop t h counts starts seg₀ from to places₀ keys₀ at₀ seg places key
 abbrev μ-loop : tie.MeasureT-loop
 μ-loop t h counts starts seg₀ from to places₀ keys₀ at₀ seg places keys at = to - at
 
--- src/group.rt:123:5
 loop-holds : tie.Need-loop-holds Inv-loop μ-loop
 loop-holds c = filling-none (c .before .before .before .before .before .before .pre .0) (c .before .before .before .before .before .before .pre .1 .1)
 
--- src/group.rt:124:13
 put-next-requires : tie.Need-put-next-requires Inv-loop μ-loop
 put-next-requires c κs = (c .before .before .before .loop .inv .cached, (c .before .before .before .before .before .before .before .before .before .before .pre .1 .0, c .before .before .before .loop .inv .within, omega (arith, c .before .before .before .before .before .before .before .before .before .before .pre .1, c .before .before .before .loop .inv .room)))
 
--- src/group.rt:126:13
 same-length : tie.Need-same-length Inv-loop μ-loop
 same-length c = omega (arith, c .before .before .before .before .before .before .before .put-next .kept, c .before .before .before .before .before .before .before .before .before .before .before .loop .inv .room)
 
--- src/group.rt:126:13
 same-length-2 : tie.Need-same-length-2 Inv-loop μ-loop
 same-length-2 c = omega (arith, c .before .before .before .before .before .before .before .put-next .ensures .1 .1 .reading, c .before .before .before .before .before .before .before .before .before .before .before .before .before .before .before .before .before .before .pre .0 .reading)
 
--- src/group.rt:126:13
 same-length-3 : tie.Need-same-length-3 Inv-loop μ-loop
 same-length-3 c = omega (arith, c .before .before .before .before .before .before .before .put-next .ensures .1 .1 .padded, c .before .before .before .before .before .before .before .before .before .before .before .before .before .before .before .before .before .before .pre .0 .padded)
 
--- src/group.rt:126:13
 returns : tie.Need-returns Inv-loop μ-loop
 returns c = (filling-all (c .before .before .before .before .before .before .before .before .before .before .before .loop .inv) (c .before .before .before .before .before .before .before .put-next .ensures .0) (c .if1 .taken), ((c .before .before .before .before .before .before .before .before .before .before .before .loop .inv .begun, c .before .before .before .before .before .before .before .before .before .before .before .loop .inv .within), c .before .before .before .before .before .before .before .put-next .ensures .1 .1))
 
--- src/group.rt:128:9
 add-at : tie.Need-add-at Inv-loop μ-loop
 add-at c = omega (arith, c .before .before .before .before .before .before .before .put-next .ensures .1 .0)
 
--- src/group.rt:123:5
 loop-less : tie.Need-loop-less Inv-loop μ-loop
 loop-less c = omega (arith, c .before .before .before .before .before .before .before .put-next .ensures .1 .0, c .if1)
 
--- src/group.rt:123:5
 loop-again : tie.Need-loop-again Inv-loop μ-loop
 loop-again c = filling-more (c .before .before .before .before .before .before .before .before .before .before .before .loop .inv) (c .before .before .before .before .before .before .before .put-next .ensures .0) (c .before .before .before .before .before .before .before .put-next .ensures .1 .0) (c .before .before .before .before .before .before .before .put-next .ensures .1 .1) (omega (arith, c .before .before .before .before .before .before .before .put-next .kept)) (c .if1 .left)
 

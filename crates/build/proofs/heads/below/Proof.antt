@@ -1,16 +1,12 @@
+-- `build::heads::below` meets its contract: the test that was taken is the one that the number says. Assumes nothing.
 use borrow.Author.Tests.{lt-ltb, le-ltb}
 use native.Mathlib.Omega.{arith}
-use borrow.Author.Needs.{needs}
 use Rattle.build.proofs.heads.below.Statement.{statement}
 use Rattle.build.proofs.heads.below.Tie as tie
-use Rattle.build.proofs.heads.below.Reads as reads
-use Rattle.build.proofs.heads.below.Lts as lts
 
--- src/heads.rt:83:1
 returns : tie.Need-returns
 returns c = (simp (lt-ltb _ _ (c .if1 .taken)), omega arith)
 
--- src/heads.rt:83:1
 returns-2 : tie.Need-returns-2
 returns-2 c = (simp (le-ltb _ _ (c .if1 .left)), omega arith)
 

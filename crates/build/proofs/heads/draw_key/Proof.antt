@@ -1,17 +1,15 @@
-use Rattle.build.specs.Build.Code.Heads.{drew-all, keyed-is}
-use Rattle.build.specs.Build.Code.Heads.{drew-none, drew-more}
+-- `build::heads::draw_key` meets its contract. Invariant: the first n of the group are the runs below r with the key. Measure: the runs left.
+-- Assumes nothing.
+use Rattle.build.specs.Build.Code.Runs.{drew-all, keyed-is}
+use Rattle.build.specs.Build.Code.Runs.{drew-none, drew-more}
 use Rattle.build.specs.Build.Code.{keyed, Drew}
 use lib.ListN.{length, length-set}
-use mathlib.Core.Path.{_≡_, refl, sym, ap, _∙_}
+use mathlib.Core.Path.{_≡_, refl}
 use Prim.Native.Nat.{_≤_, _-_}
 use native.Mathlib.Omega.{arith}
 use borrow.Author.Needs.{needs}
 use Rattle.build.proofs.heads.draw_key.Statement.{statement}
 use Rattle.build.proofs.heads.draw_key.Tie as tie
-use Rattle.build.proofs.heads.draw_key.Reads as reads
-use Rattle.build.proofs.heads.draw_key.Lts as lts
-use Rattle.build.proofs.heads.same.Reads as same-reads
-use Rattle.number.proofs.wide_size.Reads as wide-size-reads
 
 abbrev Inv-loop : tie.InvT-loop
 Inv-loop keys h m group₀ n₀ r₀ group n r = (r ≤ h) × (n ≤ r) × (length group ≡ 64) × Drew (keyed keys m) r n group
@@ -19,51 +17,39 @@ Inv-loop keys h m group₀ n₀ r₀ group n r = (r ≤ h) × (n ≤ r) × (leng
 abbrev μ-loop : tie.MeasureT-loop
 μ-loop keys h m group₀ n₀ r₀ group n r = h - r
 
--- src/heads.rt:96:5
 loop-holds : tie.Need-loop-holds Inv-loop μ-loop
 loop-holds c = (omega arith, omega arith, omega arith, drew-none _ _)
 
--- src/heads.rt:97:9
 slice-write-group : tie.Need-slice-write-group Inv-loop μ-loop
 slice-write-group c = omega arith
 
--- src/heads.rt:98:24
 wide-size-requires : tie.Need-wide-size-requires Inv-loop μ-loop
 wide-size-requires c κs = search needs
 
--- src/heads.rt:98:19
 mul-same : tie.Need-mul-same Inv-loop μ-loop
 mul-same c = omega arith
 
--- src/heads.rt:98:19
 shared-slice-read-same : tie.Need-shared-slice-read-same Inv-loop μ-loop
 shared-slice-read-same c = omega arith
 
--- src/heads.rt:98:14
 same-requires : tie.Need-same-requires Inv-loop μ-loop
 same-requires c κs = search needs
 
--- src/heads.rt:98:9
 add-n : tie.Need-add-n Inv-loop μ-loop
 add-n c = omega arith
 
--- src/heads.rt:99:9
 add-r : tie.Need-add-r Inv-loop μ-loop
 add-r c = omega arith
 
--- src/heads.rt:96:5
 loop-less : tie.Need-loop-less Inv-loop μ-loop
 loop-less c = omega arith
 
--- src/heads.rt:96:5
 loop-again : tie.Need-loop-again Inv-loop μ-loop
 loop-again c = (omega arith, omega arith, simp length-set (omega arith), drew-more _ _ (c .before .before .before .before .loop .inv .3) (omega arith) refl (keyed-is (c .before .before .before .before .before .before .before .args .keys .now) (c .before .before .before .before .before .before .before .args .m) (c .before .before .wide-size .ensures) (c .same .ensures .0)))
 
--- src/heads.rt:90:1
 same-length : tie.Need-same-length Inv-loop μ-loop
 same-length c = omega arith
 
--- src/heads.rt:90:1
 returns : tie.Need-returns Inv-loop μ-loop
 returns c = drew-all (c .before .loop .inv .3) (omega arith) (omega arith)
 

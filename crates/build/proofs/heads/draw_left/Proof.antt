@@ -1,17 +1,14 @@
-use Rattle.build.specs.Build.Code.Heads.{drew-none, drew-more, drew-all, keyedLeft-is, both-low}
+-- `build::heads::draw_left` meets its contract. Invariant: the first n of the group are the runs below r with the key and a record left.
+-- Measure: the runs left. Assumes nothing.
+use Rattle.build.specs.Build.Code.Runs.{drew-none, drew-more, drew-all, keyedLeft-is, both-low}
 use Rattle.build.specs.Build.Code.{keyedLeft, Drew}
 use lib.ListN.{length, length-set}
-use mathlib.Core.Path.{_≡_, refl, sym, ap, _∙_}
+use mathlib.Core.Path.{_≡_, refl}
 use Prim.Native.Nat.{_≤_, _-_}
 use native.Mathlib.Omega.{arith}
 use borrow.Author.Needs.{needs}
 use Rattle.build.proofs.heads.draw_left.Statement.{statement}
 use Rattle.build.proofs.heads.draw_left.Tie as tie
-use Rattle.build.proofs.heads.draw_left.Reads as reads
-use Rattle.build.proofs.heads.draw_left.Lts as lts
-use Rattle.build.proofs.heads.below.Reads as below-reads
-use Rattle.build.proofs.heads.same.Reads as same-reads
-use Rattle.number.proofs.wide_size.Reads as wide-size-reads
 
 abbrev Inv-loop : tie.InvT-loop
 Inv-loop keys counts places h m group₀ n₀ r₀ group n r = (r ≤ h) × (n ≤ r) × (length group ≡ 64) × Drew (keyedLeft keys counts places m) r n group
@@ -19,75 +16,57 @@ Inv-loop keys counts places h m group₀ n₀ r₀ group n r = (r ≤ h) × (n �
 abbrev μ-loop : tie.MeasureT-loop
 μ-loop keys counts places h m group₀ n₀ r₀ group n r = h - r
 
--- src/heads.rt:112:5
 loop-holds : tie.Need-loop-holds Inv-loop μ-loop
 loop-holds c = (omega arith, omega arith, omega arith, drew-none _ _)
 
--- src/heads.rt:113:9
 slice-write-group : tie.Need-slice-write-group Inv-loop μ-loop
 slice-write-group c = omega arith
 
--- src/heads.rt:114:13
 wide-size-requires : tie.Need-wide-size-requires Inv-loop μ-loop
 wide-size-requires c κs = search needs
 
--- src/heads.rt:115:19
 mul-same : tie.Need-mul-same Inv-loop μ-loop
 mul-same c = omega arith
 
--- src/heads.rt:115:19
 shared-slice-read-same : tie.Need-shared-slice-read-same Inv-loop μ-loop
 shared-slice-read-same c = omega arith
 
--- src/heads.rt:115:14
 same-requires : tie.Need-same-requires Inv-loop μ-loop
 same-requires c κs = search needs
 
--- src/heads.rt:115:39
 mul-below : tie.Need-mul-below Inv-loop μ-loop
 mul-below c = omega arith
 
--- src/heads.rt:115:39
 shared-slice-read-below : tie.Need-shared-slice-read-below Inv-loop μ-loop
 shared-slice-read-below c = omega arith
 
--- src/heads.rt:115:50
 mul-below-2 : tie.Need-mul-below-2 Inv-loop μ-loop
 mul-below-2 c = omega arith
 
--- src/heads.rt:115:50
 shared-slice-read-below-2 : tie.Need-shared-slice-read-below-2 Inv-loop μ-loop
 shared-slice-read-below-2 c = omega arith
 
--- src/heads.rt:115:33
 below-requires : tie.Need-below-requires Inv-loop μ-loop
 below-requires c κs = search needs
 
--- src/heads.rt:115:14
 mul-n : tie.Need-mul-n Inv-loop μ-loop
 mul-n c = omega (arith, both-low (c .before .before .before .same .result) (c .below .result) (omega arith) (omega arith))
 
--- src/heads.rt:115:9
 add-n : tie.Need-add-n Inv-loop μ-loop
 add-n c = omega (arith, both-low (c .before .before .before .same .result) (c .below .result) (omega arith) (omega arith))
 
--- src/heads.rt:116:9
 add-r : tie.Need-add-r Inv-loop μ-loop
 add-r c = omega arith
 
--- src/heads.rt:112:5
 loop-less : tie.Need-loop-less Inv-loop μ-loop
 loop-less c = omega arith
 
--- src/heads.rt:112:5
 loop-again : tie.Need-loop-again Inv-loop μ-loop
 loop-again c = (omega arith, omega (arith, both-low (c .before .before .before .same .result) (c .below .result) (omega arith) (omega arith)), simp length-set (omega arith), drew-more _ _ (c .before .before .before .before .before .before .before .loop .inv .3) (omega arith) refl (keyedLeft-is (c .before .before .before .before .before .before .before .before .before .before .before .before .args .keys .now) (c .before .before .before .before .before .before .before .before .before .before .before .before .args .counts .now) (c .before .before .before .before .before .before .before .before .before .before .before .before .args .places .now) (c .before .before .before .before .before .before .before .before .before .before .before .before .args .m) (c .before .before .before .before .before .wide-size .ensures) (c .before .before .before .same .ensures .0) (c .below .ensures .0)))
 
--- src/heads.rt:105:1
 same-length : tie.Need-same-length Inv-loop μ-loop
 same-length c = omega arith
 
--- src/heads.rt:105:1
 returns : tie.Need-returns Inv-loop μ-loop
 returns c = drew-all (c .before .loop .inv .3) (omega arith) (omega arith)
 

@@ -1,16 +1,13 @@
+-- `build::heads::fill_keys` meets its contract. Invariant: the keys of the first r runs are found. Measure: the runs left.
+-- `run-cut` says that the stretch handed on is run r. Assumes nothing.
 use Rattle.build.specs.Build.Code.Heads.{Found, found-none, found-more, found-all, next-is, run-cut}
-use Rattle.tray.specs.Frame.Code.{cut}
-use lib.ListN.{length, getD, length-set}
-use mathlib.Core.Path.{_≡_, refl, sym, ap, _∙_}
-use Prim.Native.Nat.{_≤_, _-_}
+use lib.ListN.{getD}
+use mathlib.Core.Path.{refl, ap, _∙_}
+use Prim.Native.Nat.{_-_}
 use native.Mathlib.Omega.{arith}
 use borrow.Author.Needs.{needs}
 use Rattle.build.proofs.heads.fill_keys.Statement.{statement}
 use Rattle.build.proofs.heads.fill_keys.Tie as tie
-use Rattle.build.proofs.heads.fill_keys.Reads as reads
-use Rattle.build.proofs.heads.fill_keys.Lts as lts
-use Rattle.build.proofs.heads.head_key.Reads as head-key-reads
-use Rattle.number.proofs.wide_size.Reads as wide-size-reads
 
 abbrev Inv-loop : tie.InvT-loop
 Inv-loop t h counts starts places keys₀ r₀ keys r = Found t places keys r
@@ -18,91 +15,69 @@ Inv-loop t h counts starts places keys₀ r₀ keys r = Found t places keys r
 abbrev μ-loop : tie.MeasureT-loop
 μ-loop t h counts starts places keys₀ r₀ keys r = h - r
 
--- src/heads.rt:40:5
 loop-holds : tie.Need-loop-holds Inv-loop μ-loop
 loop-holds c = found-none (c .before .before .before .before .before .pre .1 .1)
 
--- src/heads.rt:41:13
 wide-size-requires : tie.Need-wide-size-requires Inv-loop μ-loop
 wide-size-requires c κs = search needs
 
--- src/heads.rt:42:17
 mul-a : tie.Need-mul-a Inv-loop μ-loop
 mul-a c = omega arith
 
--- src/heads.rt:42:17
 shared-slice-read-a : tie.Need-shared-slice-read-a Inv-loop μ-loop
 shared-slice-read-a c = omega (arith, c .before .before .before .before .before .before .before .before .before .pre .0 .at)
 
--- src/heads.rt:43:24
 add-e : tie.Need-add-e Inv-loop μ-loop
 add-e c = omega arith
 
--- src/heads.rt:43:17
 mul-e : tie.Need-mul-e Inv-loop μ-loop
 mul-e c = omega arith
 
--- src/heads.rt:43:17
 shared-slice-read-e : tie.Need-shared-slice-read-e Inv-loop μ-loop
 shared-slice-read-e c = omega (arith, c .before .before .before .before .before .before .before .before .before .before .pre .0 .at)
 
--- src/heads.rt:44:28
 sub-head-key : tie.Need-sub-head-key Inv-loop μ-loop
 sub-head-key c = run-cut (c .before .before .before .before .before .before .before .before .before .before .pre .0) (omega arith) (c .before .before .wide-size .ensures) .start
 
--- src/heads.rt:44:28
 part-head-key-start : tie.Need-part-head-key-start Inv-loop μ-loop
 part-head-key-start c = run-cut (c .before .before .before .before .before .before .before .before .before .before .pre .0) (omega arith) (c .before .before .wide-size .ensures) .start
 
--- src/heads.rt:44:28
 part-head-key-end : tie.Need-part-head-key-end Inv-loop μ-loop
 part-head-key-end c = run-cut (c .before .before .before .before .before .before .before .before .before .before .pre .0) (omega arith) (c .before .before .wide-size .ensures) .end
 
--- src/heads.rt:44:38
 mul-head-key : tie.Need-mul-head-key Inv-loop μ-loop
 mul-head-key c = omega arith
 
--- src/heads.rt:44:38
 shared-slice-read-head-key : tie.Need-shared-slice-read-head-key Inv-loop μ-loop
 shared-slice-read-head-key c = omega (arith, c .before .before .before .before .before .before .before .before .before .before .before .before .pre .0)
 
--- src/heads.rt:44:55
 mul-t14 : tie.Need-mul-t14 Inv-loop μ-loop
 mul-t14 c = omega arith
 
--- src/heads.rt:44:55
 shared-slice-read-t24 : tie.Need-shared-slice-read-t24 Inv-loop μ-loop
 shared-slice-read-t24 c = omega (arith, c .before .before .before .before .before .before .before .before .before .before .before .before .before .pre .0)
 
--- src/heads.rt:44:19
 head-key-requires : tie.Need-head-key-requires Inv-loop μ-loop
 head-key-requires c κs = run-cut (c .before .before .before .before .before .before .before .before .before .before .before .before .before .pre .0) (omega arith) (c .before .before .before .before .before .wide-size .ensures) .whole
 
--- src/heads.rt:44:9
 mul-keys : tie.Need-mul-keys Inv-loop μ-loop
 mul-keys c = omega arith
 
--- src/heads.rt:44:9
 slice-write-keys : tie.Need-slice-write-keys Inv-loop μ-loop
 slice-write-keys c = omega (arith, c .before .before .before .before .before .before .before .before .loop .inv .padded)
 
--- src/heads.rt:45:9
 add-r : tie.Need-add-r Inv-loop μ-loop
 add-r c = omega arith
 
--- src/heads.rt:40:5
 loop-less : tie.Need-loop-less Inv-loop μ-loop
 loop-less c = omega arith
 
--- src/heads.rt:40:5
 loop-again : tie.Need-loop-again Inv-loop μ-loop
 loop-again c = found-more (c .before .before .before .before .before .before .before .before .before .before .before .before .before .before .pre .0 .few) (c .before .before .before .before .before .before .before .before .loop .inv) (omega arith) (c .before .before .before .before .before .before .wide-size .ensures) (c .head-key .ensures ∙ next-is (c .before .before .before .before .before .before .before .before .before .before .before .before .before .before .pre .0) (omega arith) (c .before .before .before .before .before .before .wide-size .ensures) (run-cut (c .before .before .before .before .before .before .before .before .before .before .before .before .before .before .pre .0) (omega arith) (c .before .before .before .before .before .before .wide-size .ensures) .bytes) refl (ap (λ j. getD (c .before .before .before .before .before .before .before .before .before .before .before .before .before .before .args .places .now) j 0) (c .before .before .before .before .before .before .wide-size .ensures)))
 
--- src/heads.rt:27:1
 same-length : tie.Need-same-length Inv-loop μ-loop
 same-length c = omega (arith, c .before .loop .inv .padded, c .before .before .before .before .before .before .before .pre .1 .1)
 
--- src/heads.rt:27:1
 returns : tie.Need-returns Inv-loop μ-loop
 returns c = found-all (c .before .before .before .before .before .before .before .pre .0) (c .before .loop .inv) (c .before .before .before .before .before .before .before .pre .1 .0) (omega arith)
 

@@ -1,16 +1,12 @@
+-- `build::heads::same` meets its contract: the test that was taken is the one that the number says. Assumes nothing.
 use borrow.Author.Tests.{eq-eqb, ne-eqb}
 use native.Mathlib.Omega.{arith}
-use borrow.Author.Needs.{needs}
 use Rattle.build.proofs.heads.same.Statement.{statement}
 use Rattle.build.proofs.heads.same.Tie as tie
-use Rattle.build.proofs.heads.same.Reads as reads
-use Rattle.build.proofs.heads.same.Lts as lts
 
--- src/heads.rt:77:1
 returns : tie.Need-returns
 returns c = (simp (eq-eqb _ _ (c .if1 .taken)), omega arith)
 
--- src/heads.rt:77:1
 returns-2 : tie.Need-returns-2
 returns-2 c = (simp (ne-eqb _ _ (c .if1 .left)), omega arith)
 

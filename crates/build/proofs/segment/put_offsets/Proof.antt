@@ -1,18 +1,16 @@
+-- `build::segment::put_offsets` meets its contract. Invariant: the offsets from run r on, written from here, complete them. Measure: the runs
+-- left. Assumes nothing.
 use Rattle.build.specs.Build.Code.Writes.{offsets-start}
 use Rattle.build.specs.Build.Code.Writes.{offsets-end, offsets-next}
 use Rattle.build.specs.Build.Code.{offsetsFrom}
 use Rattle.number.specs.Big.{put}
-use lib.ListN.{length, length-set}
-use mathlib.Core.Path.{_≡_, refl, sym, ap, _∙_}
+use lib.ListN.{length}
+use mathlib.Core.Path.{_≡_, refl, sym, _∙_}
 use Prim.Native.Nat.{_≤_, _-_, _+_, _*_}
 use native.Mathlib.Omega.{arith}
 use borrow.Author.Needs.{needs}
 use Rattle.build.proofs.segment.put_offsets.Statement.{statement}
 use Rattle.build.proofs.segment.put_offsets.Tie as tie
-use Rattle.build.proofs.segment.put_offsets.Reads as reads
-use Rattle.build.proofs.segment.put_offsets.Lts as lts
-use Rattle.number.proofs.put2.Reads as put2-reads
-use Rattle.number.proofs.wide_size.Reads as wide-size-reads
 
 abbrev Inv-loop : tie.InvT-loop
 Inv-loop seg₀ places h end r₀ seg r = (r ≤ h) × (length seg ≡ length seg₀) × (put seg (8 + 2 * r) (offsetsFrom places (h - r) r) ≡ put seg₀ 8 (offsetsFrom places h 0))
@@ -20,51 +18,39 @@ Inv-loop seg₀ places h end r₀ seg r = (r ≤ h) × (length seg ≡ length se
 abbrev μ-loop : tie.MeasureT-loop
 μ-loop seg₀ places h end r₀ seg r = end - r
 
--- src/segment.rt:19:9
 wide-size-requires : tie.Need-wide-size-requires Inv-loop μ-loop
 wide-size-requires c κs = search needs
 
--- src/segment.rt:21:5
 loop-holds : tie.Need-loop-holds Inv-loop μ-loop
 loop-holds c = (omega arith, refl, offsets-start _ _ _)
 
--- src/segment.rt:22:23
 mul-put2 : tie.Need-mul-put2 Inv-loop μ-loop
 mul-put2 c = omega arith
 
--- src/segment.rt:22:19
 add-put2 : tie.Need-add-put2 Inv-loop μ-loop
 add-put2 c = omega arith
 
--- src/segment.rt:22:30
 mul-put2-2 : tie.Need-mul-put2-2 Inv-loop μ-loop
 mul-put2-2 c = omega arith
 
--- src/segment.rt:22:30
 shared-slice-read-put2 : tie.Need-shared-slice-read-put2 Inv-loop μ-loop
 shared-slice-read-put2 c = omega arith
 
--- src/segment.rt:22:9
 put2-requires : tie.Need-put2-requires Inv-loop μ-loop
 put2-requires c κs = omega arith
 
--- src/segment.rt:23:9
 add-r : tie.Need-add-r Inv-loop μ-loop
 add-r c = omega arith
 
--- src/segment.rt:21:5
 loop-less : tie.Need-loop-less Inv-loop μ-loop
 loop-less c = omega arith
 
--- src/segment.rt:21:5
 loop-again : tie.Need-loop-again Inv-loop μ-loop
 loop-again c = (omega arith, omega (arith, c .before .before .put2 .kept), offsets-next (c .before .before .before .before .before .before .before .before .before .before .args .places .now) _ (c .before .before .put2 .ensures) (omega arith) (omega arith) ∙ c .before .before .before .before .before .before .loop .inv .2)
 
--- src/segment.rt:15:1
 same-length : tie.Need-same-length Inv-loop μ-loop
 same-length c = omega arith
 
--- src/segment.rt:15:1
 returns : tie.Need-returns Inv-loop μ-loop
 returns c = sym (offsets-end (c .before .before .before .before .before .args .places .now) _ _ (omega arith)) ∙ c .before .loop .inv .2
 

@@ -1,14 +1,13 @@
+-- `build::segment::put_placeholders` meets its contract. Invariant: the placeholders from byte i on complete them. Measure: the bytes left.
+-- Assumes nothing.
 use Rattle.build.specs.Build.Code.Writes.{holders-end, holders-next}
 use Rattle.number.specs.Big.{put}
 use lib.ListN.{length, length-set, replicate}
-use mathlib.Core.Path.{_≡_, refl, sym, ap, _∙_}
+use mathlib.Core.Path.{_≡_, refl, sym, _∙_}
 use Prim.Native.Nat.{_≤_, _-_}
 use native.Mathlib.Omega.{arith}
-use borrow.Author.Needs.{needs}
 use Rattle.build.proofs.segment.put_placeholders.Statement.{statement}
 use Rattle.build.proofs.segment.put_placeholders.Tie as tie
-use Rattle.build.proofs.segment.put_placeholders.Reads as reads
-use Rattle.build.proofs.segment.put_placeholders.Lts as lts
 
 abbrev Inv-loop : tie.InvT-loop
 Inv-loop seg₀ from to i₀ seg i = (i ≤ to) × (length seg ≡ length seg₀) × (put seg i (replicate (to - i) 63) ≡ put seg₀ from (replicate (to - from) 63))
@@ -16,31 +15,24 @@ Inv-loop seg₀ from to i₀ seg i = (i ≤ to) × (length seg ≡ length seg₀
 abbrev μ-loop : tie.MeasureT-loop
 μ-loop seg₀ from to i₀ seg i = to - i
 
--- src/segment.rt:33:5
 loop-holds : tie.Need-loop-holds Inv-loop μ-loop
 loop-holds c = (omega arith, refl, refl)
 
--- src/segment.rt:34:9
 slice-write-seg : tie.Need-slice-write-seg Inv-loop μ-loop
 slice-write-seg c = omega arith
 
--- src/segment.rt:35:9
 add-i : tie.Need-add-i Inv-loop μ-loop
 add-i c = omega arith
 
--- src/segment.rt:33:5
 loop-less : tie.Need-loop-less Inv-loop μ-loop
 loop-less c = omega arith
 
--- src/segment.rt:33:5
 loop-again : tie.Need-loop-again Inv-loop μ-loop
 loop-again c = (omega arith, simp length-set (omega arith), holders-next _ (c .loop-test .taken) (omega arith) ∙ c .before .loop .inv .2)
 
--- src/segment.rt:28:1
 same-length : tie.Need-same-length Inv-loop μ-loop
 same-length c = omega arith
 
--- src/segment.rt:28:1
 returns : tie.Need-returns Inv-loop μ-loop
 returns c = sym (holders-end _ (c .loop-test .left)) ∙ c .before .loop .inv .2
 

@@ -1,21 +1,17 @@
-use Rattle.build.specs.Build.Code.Segments.{front-long, front-back}
+-- `build::segments::count_segments` meets its contract. Invariant: g segments have been cut, and the rest of the view is left. Measure: the
+-- records left. Assumes nothing.
+use Rattle.build.specs.Build.Code.Loops.{front-long, front-back}
 use Rattle.build.specs.Build.Bytes.{cuts-few}
-use lib.ListN.{take}
-use Rattle.build.specs.Build.Code.Segments.{Merging, merging-none, merging-low, merging-end, merging-less, merging-more, sounded-ready, sounded-fits, sounded-reading, padded-none}
+use Rattle.build.specs.Build.Code.Loops.{Merging, merging-none, merging-low, merging-end, merging-less, merging-more, sounded-ready, sounded-fits, sounded-reading, padded-none}
 use Rattle.build.specs.Build.Code.{Caching}
 use Rattle.number.proofs.Known.{bytes-known}
-use lib.ListN.{length, length-set}
-use mathlib.Core.Path.{_≡_, refl, sym, ap, _∙_}
-use Prim.Native.Nat.{_≤_, _-_, _+_, _*_}
+use lib.ListN.{length}
+use mathlib.Core.Path.{_≡_, refl, sym}
+use Prim.Native.Nat.{_+_, _*_}
 use native.Mathlib.Omega.{arith}
 use borrow.Author.Needs.{needs}
 use Rattle.build.proofs.segments.count_segments.Statement.{statement}
 use Rattle.build.proofs.segments.count_segments.Tie as tie
-use Rattle.build.proofs.segments.count_segments.Reads as reads
-use Rattle.build.proofs.segments.count_segments.Lts as lts
-use Rattle.build.proofs.heads.fill_keys.Reads as fill-keys-reads
-use Rattle.build.proofs.segment.write_segment.Reads as write-segment-reads
-use Rattle.number.proofs.wide_size.Reads as wide-size-reads
 
 abbrev Inv-loop : tie.InvT-loop
 Inv-loop t d n h counts starts places₀ keys₀ stretch₀ w left₀ g₀ places keys stretch left g = Caching t counts starts places keys × Merging t d places left g × (length stretch ≡ 262)
@@ -23,95 +19,72 @@ Inv-loop t d n h counts starts places₀ keys₀ stretch₀ w left₀ g₀ place
 abbrev μ-loop : tie.MeasureT-loop
 μ-loop t d n h counts starts places₀ keys₀ stretch₀ w left₀ g₀ places keys stretch left g = left
 
--- src/segments.rt:28:21
 slice-aggregate-fill-keys : tie.Need-slice-aggregate-fill-keys Inv-loop μ-loop
 slice-aggregate-fill-keys c = sym (c .before .before .before .before .pre .opened .room)
 
--- src/segments.rt:28:30
 slice-aggregate-fill-keys-2 : tie.Need-slice-aggregate-fill-keys-2 Inv-loop μ-loop
 slice-aggregate-fill-keys-2 c = sym (c .before .before .before .before .before .pre .opened .at .room)
 
--- src/segments.rt:28:39
 slice-aggregate-fill-keys-3 : tie.Need-slice-aggregate-fill-keys-3 Inv-loop μ-loop
 slice-aggregate-fill-keys-3 c = refl
 
--- src/segments.rt:28:48
 slice-aggregate-fill-keys-4 : tie.Need-slice-aggregate-fill-keys-4 Inv-loop μ-loop
 slice-aggregate-fill-keys-4 c = refl
 
--- src/segments.rt:28:5
 fill-keys-requires : tie.Need-fill-keys-requires Inv-loop μ-loop
 fill-keys-requires c κs = (sounded-reading (c .before .before .before .before .before .before .before .pre) refl, (c .before .before .before .before .before .before .before .pre .opened .runs, padded-none))
 
--- src/segments.rt:29:21
 wide-size-requires : tie.Need-wide-size-requires Inv-loop μ-loop
 wide-size-requires c κs = search needs
 
--- src/segments.rt:29:17
 mul-w : tie.Need-mul-w Inv-loop μ-loop
 mul-w c = omega arith
 
--- src/segments.rt:29:13
 add-w : tie.Need-add-w Inv-loop μ-loop
 add-w c = omega arith
 
--- src/segments.rt:29:36
 wide-size-requires-2 : tie.Need-wide-size-requires-2 Inv-loop μ-loop
 wide-size-requires-2 c κs = search needs
 
--- src/segments.rt:29:13
 add-w-2 : tie.Need-add-w-2 Inv-loop μ-loop
 add-w-2 c = omega arith
 
--- src/segments.rt:32:5
 loop-holds : tie.Need-loop-holds Inv-loop μ-loop
 loop-holds c = (c .before .before .before .fill-keys .ensures, merging-none _ (sounded-ready (c .before .before .before .before .before .before .before .before .before .before .before .pre)) (c .before .before .before .before .before .before .before .before .before .before .before .pre .records), refl)
 
--- src/segments.rt:37:13
 slice-aggregate-write-segment : tie.Need-slice-aggregate-write-segment Inv-loop μ-loop
 slice-aggregate-write-segment c = sym (c .before .before .before .before .before .before .before .before .before .before .before .before .before .before .pre .opened .room)
 
--- src/segments.rt:38:13
 slice-aggregate-write-segment-2 : tie.Need-slice-aggregate-write-segment-2 Inv-loop μ-loop
 slice-aggregate-write-segment-2 c = sym (c .before .before .before .before .before .before .before .before .before .before .before .before .before .before .before .pre .opened .at .room)
 
--- src/segments.rt:39:13
 slice-aggregate-write-segment-3 : tie.Need-slice-aggregate-write-segment-3 Inv-loop μ-loop
 slice-aggregate-write-segment-3 c = sym (c .before .before .before .before .loop .inv .0 .reading .room-places)
 
--- src/segments.rt:40:13
 slice-aggregate-write-segment-4 : tie.Need-slice-aggregate-write-segment-4 Inv-loop μ-loop
 slice-aggregate-write-segment-4 c = sym (c .before .before .before .before .before .loop .inv .0 .padded .room)
 
--- src/segments.rt:41:13
 array-borrow-prefix-stretch : tie.Need-array-borrow-prefix-stretch Inv-loop μ-loop
 array-borrow-prefix-stretch c = omega (arith, c .before .before .before .before .before .before .before .before .before .before .before .before .before .before .before .before .before .pre .opened .few, c .before .before .before .before .before .before .before .before .before .before .before .before .before .before .before .before .before .pre .most, c .before .before .before .before .before .loop .inv .2, c .before .before .before .before .before .before .before .wide-size .ensures, c .before .before .before .before .before .before .wide-size2 .ensures)
 
--- src/segments.rt:41:13
 slice-aggregate-write-segment-5 : tie.Need-slice-aggregate-write-segment-5 Inv-loop μ-loop
 slice-aggregate-write-segment-5 c = sym (front-long _ _ (omega (arith, c .before .before .before .before .before .before .before .before .before .before .before .before .before .before .before .before .before .before .pre .opened .few, c .before .before .before .before .before .before .before .before .before .before .before .before .before .before .before .before .before .before .pre .most, c .before .before .before .before .before .before .loop .inv .2, c .before .before .before .before .before .before .before .before .wide-size .ensures, c .before .before .before .before .before .before .before .wide-size2 .ensures)) refl)
 
--- src/segments.rt:33:13
 write-segment-requires : tie.Need-write-segment-requires Inv-loop μ-loop
 write-segment-requires c κs = (c .before .before .before .before .before .before .loop .inv .0, (c .before .before .before .before .before .before .before .before .before .before .before .before .before .before .before .before .before .before .pre .opened .runs, (front-long (8 + 2 * (c .before .before .before .before .before .before .before .before .wide-size .result) + c .before .before .before .before .before .before .before .wide-size2 .result) (c .before .before .before .before .before .before .loop .stretch) (omega (arith, c .before .before .before .before .before .before .before .before .before .before .before .before .before .before .before .before .before .before .pre .opened .few, c .before .before .before .before .before .before .before .before .before .before .before .before .before .before .before .before .before .before .pre .most, c .before .before .before .before .before .before .loop .inv .2, c .before .before .before .before .before .before .before .before .wide-size .ensures, c .before .before .before .before .before .before .before .wide-size2 .ensures)) (omega (arith, c .before .before .before .before .before .before .before .before .wide-size .ensures, c .before .before .before .before .before .before .before .wide-size2 .ensures)))))
 
--- src/segments.rt:43:9
 sub-left : tie.Need-sub-left Inv-loop μ-loop
 sub-left c = merging-less (c .before .before .before .before .before .before .before .before .before .before .before .before .before .before .before .before .before .before .before .before .before .before .args .t .now) (sounded-ready (c .before .before .before .before .before .before .before .before .before .before .before .before .before .before .before .before .before .before .before .before .before .before .pre)) (sounded-fits (c .before .before .before .before .before .before .before .before .before .before .before .before .before .before .before .before .before .before .before .before .before .before .pre) (bytes-known (c .before .before .before .before .before .before .before .before .before .before .before .before .before .before .before .before .before .before .before .before .before .before .args .t .now) (c .before .before .before .before .before .before .before .before .before .before .before .before .before .before .before .before .before .before .before .before .before .shared-slice-known .given))) (c .before .before .before .before .before .before .before .before .before .before .before .before .before .before .before .before .before .before .before .before .before .before .pre .opened .runs) (c .before .before .before .before .before .before .before .before .before .before .loop .inv .1) (c .before .before .before .before .before .before .before .before .before .loop-test .taken) (front-long (8 + 2 * (c .before .before .before .before .before .before .before .before .before .before .before .before .wide-size .result) + c .before .before .before .before .before .before .before .before .before .before .before .wide-size2 .result) (c .before .before .before .before .before .before .before .before .before .before .loop .stretch) (omega (arith, c .before .before .before .before .before .before .before .before .before .before .before .before .before .before .before .before .before .before .before .before .before .before .pre .opened .few, c .before .before .before .before .before .before .before .before .before .before .before .before .before .before .before .before .before .before .before .before .before .before .pre .most, c .before .before .before .before .before .before .before .before .before .before .loop .inv .2, c .before .before .before .before .before .before .before .before .before .before .before .before .wide-size .ensures, c .before .before .before .before .before .before .before .before .before .before .before .wide-size2 .ensures)) (omega (arith, c .before .before .before .before .before .before .before .before .before .before .before .before .wide-size .ensures, c .before .before .before .before .before .before .before .before .before .before .before .wide-size2 .ensures))) (c .before .before .before .write-segment .ensures .0) .1
 
--- src/segments.rt:44:9
 add-g : tie.Need-add-g Inv-loop μ-loop
 add-g c = omega (arith, merging-low (c .before .before .before .before .before .before .before .before .before .before .before .before .before .before .before .before .before .before .before .before .before .before .args .t .now) (sounded-ready (c .before .before .before .before .before .before .before .before .before .before .before .before .before .before .before .before .before .before .before .before .before .before .pre)) (c .before .before .before .before .before .before .before .before .before .before .loop .inv .1) (c .before .before .before .before .before .before .before .before .before .loop-test .taken), cuts-few (sounded-ready (c .before .before .before .before .before .before .before .before .before .before .before .before .before .before .before .before .before .before .before .before .before .before .pre)) (sounded-fits (c .before .before .before .before .before .before .before .before .before .before .before .before .before .before .before .before .before .before .before .before .before .before .pre) (bytes-known (c .before .before .before .before .before .before .before .before .before .before .before .before .before .before .before .before .before .before .before .before .before .before .args .t .now) (c .before .before .before .before .before .before .before .before .before .before .before .before .before .before .before .before .before .before .before .before .before .shared-slice-known .given))))
 
--- src/segments.rt:32:5
 loop-less : tie.Need-loop-less Inv-loop μ-loop
 loop-less c = let k = merging-less (c .before .before .before .before .before .before .before .before .before .before .before .before .before .before .before .before .before .before .before .before .before .before .args .t .now) (sounded-ready (c .before .before .before .before .before .before .before .before .before .before .before .before .before .before .before .before .before .before .before .before .before .before .pre)) (sounded-fits (c .before .before .before .before .before .before .before .before .before .before .before .before .before .before .before .before .before .before .before .before .before .before .pre) (bytes-known (c .before .before .before .before .before .before .before .before .before .before .before .before .before .before .before .before .before .before .before .before .before .before .args .t .now) (c .before .before .before .before .before .before .before .before .before .before .before .before .before .before .before .before .before .before .before .before .before .shared-slice-known .given))) (c .before .before .before .before .before .before .before .before .before .before .before .before .before .before .before .before .before .before .before .before .before .before .pre .opened .runs) (c .before .before .before .before .before .before .before .before .before .before .loop .inv .1) (c .before .before .before .before .before .before .before .before .before .loop-test .taken) (front-long (8 + 2 * (c .before .before .before .before .before .before .before .before .before .before .before .before .wide-size .result) + c .before .before .before .before .before .before .before .before .before .before .before .wide-size2 .result) (c .before .before .before .before .before .before .before .before .before .before .loop .stretch) (omega (arith, c .before .before .before .before .before .before .before .before .before .before .before .before .before .before .before .before .before .before .before .before .before .before .pre .opened .few, c .before .before .before .before .before .before .before .before .before .before .before .before .before .before .before .before .before .before .before .before .before .before .pre .most, c .before .before .before .before .before .before .before .before .before .before .loop .inv .2, c .before .before .before .before .before .before .before .before .before .before .before .before .wide-size .ensures, c .before .before .before .before .before .before .before .before .before .before .before .wide-size2 .ensures)) (omega (arith, c .before .before .before .before .before .before .before .before .before .before .before .before .wide-size .ensures, c .before .before .before .before .before .before .before .before .before .before .before .wide-size2 .ensures))) (c .before .before .before .write-segment .ensures .0) in omega (arith, k .0, k .1)
 
--- src/segments.rt:32:5
 loop-again : tie.Need-loop-again Inv-loop μ-loop
 loop-again c = (c .before .before .before .write-segment .ensures .1, merging-more (c .before .before .before .before .before .before .before .before .before .before .before .before .before .before .before .before .before .before .before .before .before .before .args .t .now) (sounded-ready (c .before .before .before .before .before .before .before .before .before .before .before .before .before .before .before .before .before .before .before .before .before .before .pre)) (sounded-fits (c .before .before .before .before .before .before .before .before .before .before .before .before .before .before .before .before .before .before .before .before .before .before .pre) (bytes-known (c .before .before .before .before .before .before .before .before .before .before .before .before .before .before .before .before .before .before .before .before .before .before .args .t .now) (c .before .before .before .before .before .before .before .before .before .before .before .before .before .before .before .before .before .before .before .before .before .shared-slice-known .given))) (c .before .before .before .before .before .before .before .before .before .before .before .before .before .before .before .before .before .before .before .before .before .before .pre .opened .runs) (c .before .before .before .before .before .before .before .before .before .before .loop .inv .1) (c .before .before .before .before .before .before .before .before .before .loop-test .taken) (front-long (8 + 2 * (c .before .before .before .before .before .before .before .before .before .before .before .before .wide-size .result) + c .before .before .before .before .before .before .before .before .before .before .before .wide-size2 .result) (c .before .before .before .before .before .before .before .before .before .before .loop .stretch) (omega (arith, c .before .before .before .before .before .before .before .before .before .before .before .before .before .before .before .before .before .before .before .before .before .before .pre .opened .few, c .before .before .before .before .before .before .before .before .before .before .before .before .before .before .before .before .before .before .before .before .before .before .pre .most, c .before .before .before .before .before .before .before .before .before .before .loop .inv .2, c .before .before .before .before .before .before .before .before .before .before .before .before .wide-size .ensures, c .before .before .before .before .before .before .before .before .before .before .before .wide-size2 .ensures)) (omega (arith, c .before .before .before .before .before .before .before .before .before .before .before .before .wide-size .ensures, c .before .before .before .before .before .before .before .before .before .before .before .wide-size2 .ensures))) (c .before .before .before .write-segment .ensures .0), front-back (8 + 2 * (c .before .before .before .before .before .before .before .before .before .before .before .before .wide-size .result) + c .before .before .before .before .before .before .before .before .before .before .before .wide-size2 .result) (c .before .before .before .before .before .before .before .before .before .before .loop .stretch) (c .before .before .before .write-segment .last .1 .1 .1 .1 .1 .1 .1 .0) (omega (arith, c .before .before .before .before .before .before .before .before .before .before .before .before .before .before .before .before .before .before .before .before .before .before .pre .opened .few, c .before .before .before .before .before .before .before .before .before .before .before .before .before .before .before .before .before .before .before .before .before .before .pre .most, c .before .before .before .before .before .before .before .before .before .before .loop .inv .2, c .before .before .before .before .before .before .before .before .before .before .before .before .wide-size .ensures, c .before .before .before .before .before .before .before .before .before .before .before .wide-size2 .ensures)) (c .before .before .before .write-segment .kept .1 .1 .1 .1 .1 .1 .1 .0) (c .before .before .before .before .before .before .before .before .before .before .loop .inv .2))
 
--- src/segments.rt:18:1
 returns : tie.Need-returns Inv-loop μ-loop
 returns c = merging-end _ (sounded-ready (c .before .before .before .before .before .before .before .before .before .before .before .before .before .pre)) (c .before .loop .inv .1) (omega arith)
 

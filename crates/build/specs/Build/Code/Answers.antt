@@ -4,11 +4,12 @@
 --     most-room             a room that is surely enough
 --     answer-fits, answer-short, answer-frame, answer-size, answer-refused, answer-sound     the answers
 -- Assumes nothing.
-use mathlib.Core.Path.{_≡_, refl, sym, ap, ap₂, _∙_, subst}
-use Prim.Native.Nat.{ℕ, suc, _+_, _*_, _/_, _≤_, _<_}
+-- the answer for a sound tray
+use mathlib.Core.Path.{_≡_, refl, sym, ap, ap₂, _∙_}
+use Prim.Native.Nat.{ℕ, _+_, _*_, _/_, _≤_, _<_}
 use native.Mathlib.Nat.{div-le-self}
 use native.Mathlib.Omega.{arith}
-use mathlib.Core.Bool.{Bool, true, false, cond, _&&_}
+use mathlib.Core.Bool.{true, false, cond}
 use mathlib.Core.List.{List, [], _∷_, _++_, append-assoc}
 use lib.ListN.{length, set, length-append}
 use lib.Dec.{leb}
@@ -21,9 +22,8 @@ use Rattle.refusal.specs.declared.Refusal.the-variants.{TrayFrame as FrameRefus
 use Rattle.theory.specs.Records.{Record}
 use Rattle.tray.specs.declared.check.TrayAnswer.the-variants.{Records, Refused as TrayRefused}
 use Rattle.tray.specs.declared.frame.TrayFrame.{TrayFrame}
-use Rattle.tray.specs.Frame.{runCount, recordsBefore, framed, Framing}
+use Rattle.tray.specs.Frame.{runCount, framed, Framing}
 use Rattle.tray.specs.Frame.Code.{opened}
-use Rattle.theory.specs.Tests.{and-true}
 use Rattle.tray.specs.Check.{checkTray}
 use Rattle.tray.specs.Check.Theorems.{answers-records}
 use Rattle.tray.specs.Meaning.{runsOf}
@@ -38,9 +38,8 @@ use Rattle.build.specs.Build.Bytes.{total-short}
 use Rattle.build.specs.Build.Theorems.{built-most}
 use Rattle.build.specs.Build.Code.{Sounded}
 use Rattle.build.specs.Build.Code.Writes.{put-before}
-use Rattle.build.specs.Build.Code.Segments.{sounded-fits}
+use Rattle.build.specs.Build.Code.Loops.{sounded-fits}
 
--- the answer for a sound tray
 unfoldable pub roomAnswer : ℕ → List (List Record) → ℕ → BuildAnswer
 roomAnswer d t room = cond (leb (indexSize d t) room) (Written (indexSize d t)) (Refused (Room (indexSize d t)))
 

@@ -10,20 +10,19 @@ use Prim.Native.Nat.{ℕ, zero, suc, _+_, _≤_, _<_}
 use native.Mathlib.Omega.{arith}
 use mathlib.Core.Bool.{Bool, true, false, cond, _&&_}
 use mathlib.Core.List.{List, [], _∷_, _++_, List·Memᴰ·head, List·Memᴰ·tail, List·Memᴰ·not-nil, List·Memᴰ·eq-of-singleton, List·Memᴰ·append-cases, Memᴰ·append-left, Memᴰ·append-right}
-use lib.ListN.{length, getD, take, set, length-set}
+use lib.ListN.{length, getD, take}
 use lib.Seq.{getD-set-other}
 use lib.Dec.{eqb, ltb}
-use borrow.Author.Tests.{lt-ltb, le-ltb, eqb-true, ltb-true, ltb-false, eq-eqb}
+use borrow.Author.Tests.{lt-ltb, eqb-true, ltb-true, ltb-false, eq-eqb}
 use Rattle.theory.specs.Rising.{Mem, All, Rises}
 use Rattle.theory.specs.Rising
 use Rattle.theory.specs.Rising.Laws.{rises-append}
-use Rattle.theory.specs.Tests.{cases, clash, split-at, and-left, and-right}
+use Rattle.theory.specs.Tests.{cases, split-at, and-left, and-right}
 use Rattle.tray.specs.Frame.{runCount, countOf, runBytes}
 use Rattle.tray.specs.Run.{recordAt}
 use Rattle.index.specs.Scan.{nextIn, hasNext, raise}
-use Rattle.index.specs.Scan.Code.{Reading}
 use Rattle.build.specs.Build.Code.{highest, keyOr, nextKey, Padded, Caching, Least, Left, runsTo, keyedLeft, Drew, Takeable, none, more, written, takeAll, drawn, LeastKey, Puts, full, puts}
-use Rattle.build.specs.Build.Code.Heads.{runsTo-same}
+use Rattle.build.specs.Build.Code.Runs.{runsTo-same}
 
 module _ (test : ℕ → Bool) where
   pub runsTo-mem : (h : ℕ) {r : ℕ} → Mem r (runsTo test h) → (r < h) × (test r ≡ true)

@@ -1,13 +1,12 @@
 -- What the code writes into a segment: key after key, as `packOn` packs them.
 --     Filled, fill-is       the selectors that are written, and what is left after them
 -- Assumes nothing.
+-- after own, the records more have been written from a place on, as they are packed
 use mathlib.Core.Path.{_≡_, refl, sym, ap, ap₂, _∙_, subst}
-use Prim.Native.Nat.{ℕ, zero, suc, _+_, _≤_, _<_}
+use Prim.Native.Nat.{ℕ, _+_, _≤_, _<_}
 use native.Mathlib.Omega.{arith}
-use mathlib.Core.Bool.{Bool, true, false, cond}
 use mathlib.Core.List.{List, [], _∷_, _++_, map, map-append, append-assoc, append-nil}
 use lib.ListN.{length, length-append, length-map}
-use lib.Dec.{leb}
 use borrow.Author.Tests.{le-leb, lt-leb}
 use Rattle.number.specs.Big.{put}
 use Rattle.number.specs.Big.Writes.{put-put, length-put}
@@ -18,12 +17,11 @@ use Rattle.index.specs.Rules.{Item, selectorOf}
 use Rattle.index.specs.Scan.Places.{placesOf}
 use Rattle.build.specs.Build.{itemKey}
 use Rattle.build.specs.Build.Laws.{Ready}
-use Rattle.build.specs.Build.Code.{written, takeAll, drawn, LeastKey, Puts, full, puts, Fills, ends, goes}
+use Rattle.build.specs.Build.Code.{written, takeAll, drawn, LeastKey, full, puts, Fills, ends, goes}
 use Rattle.build.specs.Build.Code.Writes.{put-nil}
 use Rattle.build.specs.Build.Code.Merge.{Stand, Group, group-drawn}
 use Rattle.build.specs.Build.Code.Spelled.{group-taken, group-stand, group-first}
 
--- after own, the records more have been written from a place on, as they are packed
 pub record Filled (t : List ℕ) (d : ℕ) (b own w : List Item) (places′ seg seg′ : List ℕ) (at e : ℕ) : Type 0 where
   pub more : List Item
   pub left : List Item

@@ -1,28 +1,27 @@
 -- What the code of the heads needs: each law is a way out of a function, or a turn of its loop.
---     key-has, key-past                       the key at a place
---     next-is                                 the next key of a run, from the run's own bytes
+--     key-has, key-past                           the key at a place
+--     next-is                                     the next key of a run, from the run's own bytes
 --     Found, found-none, found-more, found-all    the next keys, run by run
 --     Lanes, lanes-none, lanes-more, lanes-all    the least of the keys, four at a time
---     drew-none, drew-more, drew-same         the runs with a key
+--     RunCut, run-cut                             a run cut out of the tray, with its count
 -- Assumes nothing.
 use mathlib.Core.Path.{_≡_, refl, sym, ap, _∙_, subst}
-use Prim.Native.Nat.{ℕ, zero, suc, _+_, _-_, _*_, _%_, _≤_, _<_}
-use native.Mathlib.Nat.{add-zero}
+use Prim.Native.Nat.{ℕ, _+_, _-_, _*_, _%_, _≤_, _<_}
 use native.Mathlib.Numerals.{add-one}
 use native.Mathlib.Omega.{arith}
-use mathlib.Core.Bool.{Bool, true, false, cond, _&&_}
-use mathlib.Core.List.{List, [], _∷_, _++_, append-nil}
-use lib.ListN.{length, getD, take, drop, set, length-append, length-set}
-use lib.Seq.{getD-set-same, getD-set-other, take-suc-set, take-set-le}
-use lib.Dec.{eqb, ltb}
-use borrow.Author.Tests.{lt-ltb, le-ltb, eqb-true, ltb-true, ltb-false}
+use mathlib.Core.Bool.{false}
+use mathlib.Core.List.{List}
+use lib.ListN.{length, getD, take, drop, set, length-set}
+use lib.Seq.{getD-set-same, getD-set-other}
+use lib.Dec.{ltb}
+use borrow.Author.Tests.{lt-ltb, le-ltb, ltb-true, ltb-false}
 use Rattle.theory.specs.Tests.{cases, order}
 use Rattle.tray.specs.Frame.{runCount, countOf, runBytes}
 use Rattle.tray.specs.Frame.Laws.{upto}
-use Rattle.tray.specs.Frame.Code.{Cut, cut}
+use Rattle.tray.specs.Frame.Code.{cut}
 use Rattle.tray.specs.Run.{recordAt}
 use Rattle.index.specs.Scan.Code.{Reading}
-use Rattle.build.specs.Build.Code.{highest, keyOr, nextKey, Padded, Caching, Lesser, Least, runsTo, keyed, keyedLeft, Drew, Left}
+use Rattle.build.specs.Build.Code.{highest, keyOr, nextKey, Padded, Caching, Lesser, Least}
 
 pub key-has : (run : List ℕ) {n p k : ℕ} → p < n → k ≡ recordAt run p .key → k ≡ keyOr run n p
 unfolding keyOr
@@ -142,73 +141,6 @@ module _ (keys : List ℕ) where
           out : ltb i h ≡ false → ⊥
           out f = let z = p .past i (ltb-false i h f) k in omega arith
 
-module _ (test : ℕ → Bool) where
-  pub drew-none : (group : List ℕ) → Drew test 0 0 group
-  unfolding runsTo
-  drew-none group = record { number = refl; runs = refl }
-
-  pub drew-more : {r n k i : ℕ} (group : List ℕ) → Drew test r n group → n < length group → i ≡ r → k ≡ cond (test r) 1 0
-      → Drew test (r + 1) (n + k) (set group n i)
-  unfolding runsTo
-  drew-more {r} {n} {k} {i} group w l e is = rw (add-one, is, e) (go (test r) refl)
-    where
-      go : (b : Bool) → test r ≡ b → Drew test (suc r) (n + cond b 1 0) (set group n r)
-      go true y =
-          record {
-            number = rw y (simp length-append (ap (λ (j : ℕ). j + 1) (w .number)));
-            runs = rw (y, add-one, take-suc-set group n r l) (ap (λ (s : List ℕ). s ++ (r ∷ [])) (w .runs));
-          }
-      go false y =
-          record {
-            number = rw (y, append-nil, add-zero) (w .number);
-            runs = rw (y, append-nil, add-zero, take-set-le n group n r (omega arith)) (w .runs);
-          }
-
--- two tests that agree below h draw the same runs
-pub runsTo-same : (test test′ : ℕ → Bool) (h : ℕ) → ((i : ℕ) → i < h → test i ≡ test′ i) → runsTo test h ≡ runsTo test′ h
-unfolding runsTo
-runsTo-same test test′ zero e = refl
-runsTo-same test test′ (suc h) e = rw (runsTo-same test test′ h (λ i l. e i (omega arith)), e h (omega arith))
-
-pub drew-same : {test test′ : ℕ → Bool} {h n : ℕ} {group : List ℕ} → Drew test h n group → ((i : ℕ) → i < h → test i ≡ test′ i) → Drew test′ h n group
-drew-same {test} {test′} {h} w e =
-    let same = runsTo-same test test′ h e in
-    record { number = w .number ∙ ap length same; runs = w .runs ∙ same }
-
-pub drew-all : {test : ℕ → Bool} {r h n : ℕ} {group : List ℕ} → Drew test r n group → r ≤ h → h ≤ r → Drew test h n group
-drew-all {test} {r} {h} {n} {group} w l k = subst (λ (j : ℕ). Drew test j n group) {x = r} {y = h} (omega arith) w
-
--- the key of a run that the code numbers i
-pub keyed-is : (keys : List ℕ) (m : ℕ) {r i k : ℕ} → i ≡ r → k ≡ cond (eqb (getD keys i 0) m) 1 0 → k ≡ cond (keyed keys m r) 1 0
-keyed-is keys m e p = p ∙ ap (λ (j : ℕ). cond (eqb (getD keys j 0) m) 1 0) e
-
--- two tests as one number
-both-is : (a b : Bool) {k l : ℕ} → k ≡ cond a 1 0 → l ≡ cond b 1 0 → k * l ≡ cond (a && b) 1 0
-both-is true true p q = rw (p, q)
-both-is true false p q = rw (p, q)
-both-is false true p q = rw (p, q)
-both-is false false p q = rw (p, q)
-
-pub both-low : (k l : ℕ) → k ≤ 1 → l ≤ 1 → k * l ≤ 1
-both-low zero l p q = omega arith
-both-low (suc zero) l p q = omega arith
-both-low (suc (suc k)) l p q = absurd (omega arith)
-
-pub keyedLeft-is : (keys counts places : List ℕ) (m : ℕ) {r i k l : ℕ} → i ≡ r → k ≡ cond (eqb (getD keys i 0) m) 1 0
-    → l ≡ cond (ltb (getD places i 0) (getD counts i 0)) 1 0 → k * l ≡ cond (keyedLeft keys counts places m r) 1 0
-keyedLeft-is keys counts places m {r} {i} e p q =
-    both-is (eqb (getD keys i 0) m) (ltb (getD places i 0) (getD counts i 0)) p q ∙ ap (λ (j : ℕ). cond (keyedLeft keys counts places m j) 1 0) e
-
--- where the key is not the highest number, what has it is not at its end
-pub keyed-left : {keys counts places : List ℕ} {h m : ℕ} → Left keys counts places h → m < highest
-    → (i : ℕ) → i < h → keyed keys m i ≡ keyedLeft keys counts places m i
-keyed-left {keys} {counts} {places} {h} {m} w l i k =
-    cases (eqb (getD keys i 0) m)
-    (λ y. let e : getD keys i 0 ≡ m = eqb-true _ _ y in
-    let z : getD places i 0 < getD counts i 0 = w .left i k (omega arith) in
-    rw (lt-ltb _ _ z) (cases (eqb (getD keys i 0) m) (λ u. rw u) (λ u. rw u)))
-    (λ n. rw n)
-
 -- run r cut out of the tray, with its count as the code has it
 pub record RunCut (t counts : List ℕ) (r i a e : ℕ) : Type 0 where
   pub start : a ≤ e
@@ -225,16 +157,3 @@ run-cut {t} {counts} {starts} {r = r} {i} g l e =
     let n : getD counts i 0 ≡ countOf t r = ap (λ (j : ℕ). getD counts j 0) e ∙ g .counts-are r l in
     let low : countOf t r ≤ 4096 = k .few in
     record { start = k .start; end = k .end; few = omega arith; records = n; whole = k .whole ∙ ap (λ (j : ℕ). 25 * j) (sym n); bytes = k .bytes }
-
--- no more runs than there are
-pub runsTo-length : (test : ℕ → Bool) (h : ℕ) → length (runsTo test h) ≤ h
-unfolding runsTo
-runsTo-length test zero = omega arith
-runsTo-length test (suc h) = simp length-append (omega (arith, runsTo-length test h, one (test h)))
-  where
-    one : (b : Bool) → length (cond b (h ∷ []) []) ≤ 1
-    one true = omega arith
-    one false = omega arith
-
-pub drew-low : {test : ℕ → Bool} {h n : ℕ} {group : List ℕ} → Drew test h n group → n ≤ h
-drew-low {test} {h} w = omega (arith, w .number, runsTo-length test h)

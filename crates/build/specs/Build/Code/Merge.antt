@@ -3,23 +3,22 @@
 --     nextKey-has                  the next key of a run with something left
 --     Group, group-drawn           the records of the runs that are drawn: the view's next ones, and all that have their key
 -- Assumes nothing.
-use mathlib.Core.Path.{_≡_, refl, sym, ap, _∙_, subst}
-use mathlib.Core.Logic.{⊎-elim}
-use Prim.Native.Nat.{ℕ, zero, suc, _+_, _^_, _≤_, _<_}
+-- the records b have been read, w are left, and the places say so
+use mathlib.Core.Path.{_≡_, sym, ap, _∙_, subst}
+use Prim.Native.Nat.{ℕ, _^_, _≤_, _<_}
 use native.Mathlib.Nat.{zero-add}
 use native.Mathlib.Omega.{arith}
-use mathlib.Core.Bool.{Bool, true, false, cond}
+use mathlib.Core.Bool.{false}
 use mathlib.Core.Option.{some, Option·some-injective}
-use mathlib.Core.List.{List, [], _∷_, _++_, map, append-assoc, append-nil, List·Memᴰ·head, List·Memᴰ·tail, List·Memᴰ·not-nil, List·Memᴰ·append-cases, Memᴰ·append-left, Memᴰ·append-right, Memᴰ·map, Memᴰ·of-map}
-use lib.ListN.{length, getD, getElem?, length-map}
-use lib.Dec.{eqb, ltb}
+use mathlib.Core.List.{List, [], _∷_, _++_, map, List·Memᴰ·not-nil, Memᴰ·map, Memᴰ·of-map}
+use lib.ListN.{length, getD, getElem?}
+use lib.Dec.{ltb}
 use borrow.Author.Tests.{lt-ltb, ltb-true, ltb-false}
-use Rattle.theory.specs.Records.{Record}
 use Rattle.theory.specs.Rising.{Mem, All}
 use Rattle.theory.specs.Rising.Laws.{same-members, rises-map}
 use Rattle.theory.specs.Tests.{cases}
-use Rattle.theory.specs.View.{runAt, At, view}
-use Rattle.theory.specs.Lists.{place-lt, no-members}
+use Rattle.theory.specs.View.{At, view}
+use Rattle.theory.specs.Lists.{place-lt}
 use Rattle.theory.specs.View.Entries.{at-run, at-mem}
 use Rattle.theory.specs.Places.{rest, passed, count, Head, versions}
 use Rattle.theory.specs.Places.Passed.{passed-count}
@@ -39,7 +38,6 @@ use Rattle.build.specs.Build.Bytes.{runAt-has}
 use Rattle.build.specs.Build.Code.{highest, keyOr, nextKey, drawn, LeastKey}
 use Rattle.build.specs.Build.Code.Draws.{drawn-rises, drawn-mem, mem-drawn}
 
--- the records b have been read, w are left, and the places say so
 pub record Stand (t : List ℕ) (b w : List Item) (places : List ℕ) : Type 0 where
   pub cut : Cut (runsOf t) b w
   pub is : places ≡ placesOf b

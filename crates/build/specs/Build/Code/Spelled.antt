@@ -4,42 +4,40 @@
 --     spell-marks           the first record of a group is not old, and the others are
 --     group-stand           after a group the code stands behind its records
 -- Assumes nothing.
+-- the selectors of records, the first with a mark and the others old
 use mathlib.Core.Path.{_≡_, refl, sym, ap, ap₂, _∙_, subst}
 use mathlib.Core.Logic.{⊎-elim}
-use Prim.Native.Nat.{ℕ, zero, suc, _+_, _≤_, _<_}
+use Prim.Native.Nat.{ℕ, suc, _+_, _≤_, _<_}
 use native.Mathlib.Omega.{arith}
-use mathlib.Core.Bool.{Bool, true, false, cond}
-use mathlib.Core.List.{List, [], _∷_, _++_, map, append-assoc, append-nil, List·Memᴰ·head, List·Memᴰ·tail, List·Memᴰ·append-cases, Memᴰ·append-left, Memᴰ·append-right}
+use mathlib.Core.Bool.{cond}
+use mathlib.Core.List.{List, [], _∷_, _++_, map, append-assoc, append-nil, List·Memᴰ·head, List·Memᴰ·append-cases, Memᴰ·append-right}
 use lib.ListN.{length, getD, set, length-set, length-map}
 use lib.Seq.{append-snoc}
-use lib.Dec.{eqb}
 use borrow.Author.Tests.{eq-eqb}
 use Rattle.number.specs.Big.{put}
 use Rattle.theory.specs.Records.{live}
-use Rattle.theory.specs.Rising.{Mem, All}
+use Rattle.theory.specs.Rising.{Mem}
 use Rattle.theory.specs.Lists.{all-tail}
 use Rattle.theory.specs.View.{view}
 use Rattle.theory.specs.View.Laws.{view-at}
-use Rattle.theory.specs.Places.{count}
 use Rattle.theory.specs.Places.Laws.{place-count}
 use Rattle.theory.specs.Pack.{groups}
 use Rattle.theory.specs.Pack.Groups.{groups-step}
-use Rattle.tray.specs.Frame.{runCount, runBytes}
+use Rattle.tray.specs.Frame.{runBytes}
 use Rattle.tray.specs.Run.{recordAt}
 use Rattle.tray.specs.Meaning.{runsOf}
 use Rattle.tray.specs.Meaning.Laws.{length-runsOf}
 use Rattle.index.specs.Rules.{Item, keyOf, selectorOf}
 use Rattle.index.specs.Rules.Cuts.{Cut}
-use Rattle.index.specs.Scan.{nextIn, raise, marked}
+use Rattle.index.specs.Scan.{nextIn, marked}
 use Rattle.index.specs.Scan.Marks.{marks, first-mark, true-marks}
 use Rattle.index.specs.Scan.Places.{placesOf, getD-placesOf, raise-placesOf}
 use Rattle.build.specs.Build.{itemKey}
 use Rattle.build.specs.Build.Laws.{Ready, below-64}
-use Rattle.build.specs.Build.Code.{spelling, Written, written, takeAll}
+use Rattle.build.specs.Build.Code.{spelling, written, takeAll}
 use Rattle.build.specs.Build.Code.Writes.{put-nil, put-cons}
 use Rattle.build.specs.Build.Code.Merge.{Stand, Stands, stands, Group}
 
--- the selectors of records, the first with a mark and the others old
 unfoldable pub spell : ℕ → List Item → List ℕ
 spell mark [] = []
 spell mark (e ∷ es) = (e .run + (mark + cond (live (e .item)) 0 64)) ∷ spell 128 es

@@ -1,25 +1,25 @@
 -- What the code of the versions of a key needs: each law is a way out of a function, or a turn of its loop.
 -- Assumes nothing.
-use mathlib.Core.Path.{_≡_, refl, sym, ap, ap₂, _∙_, subst}
-use Prim.Native.Nat.{ℕ, zero, suc, _+_, _-_, _*_, _≤_, _<_}
+-- a run that has a next record
+use mathlib.Core.Path.{_≡_, refl, sym, ap, _∙_, subst}
+use Prim.Native.Nat.{ℕ, zero, suc, _+_, _≤_, _<_}
 use native.Mathlib.Nat.{add-zero}
 use native.Mathlib.Numerals.{add-one}
 use native.Mathlib.Omega.{arith}
-use mathlib.Core.Bool.{Bool, true, false, cond, _&&_}
-use mathlib.Core.List.{List, [], _∷_, _++_}
+use mathlib.Core.Bool.{cond}
+use mathlib.Core.List.{List, [], _∷_}
 use lib.ListN.{length, getD, take, drop, set, length-set, drop-of-length-le}
 use lib.Seq.{getD-set-same, getD-set-other, drop-cons, getD-take, length-take-le}
-use lib.Dec.{eqb, ltb}
+use lib.Dec.{eqb}
 use borrow.Author.Tests.{eqb-true, eqb-false}
 use Rattle.theory.specs.Tests.{cases}
 use Rattle.tray.specs.Frame.{runCount, countOf, runBytes}
 use Rattle.tray.specs.Run.{recordAt}
-use Rattle.index.specs.Scan.{nextIn, hasNext, raise}
+use Rattle.index.specs.Scan.{nextIn, raise}
 use Rattle.index.specs.Scan.Code.{Reading}
-use Rattle.build.specs.Build.Code.{highest, keyOr, nextKey, Padded, Caching, spelling, Takeable, none, more, Took, Written, written, takeAll, Puts, Fills, ends, goes}
+use Rattle.build.specs.Build.Code.{keyOr, nextKey, Caching, spelling, Takeable, more, Took, written, takeAll, Puts, Fills, ends, goes}
 use Rattle.build.specs.Build.Code.Heads.{next-is}
 
--- a run that has a next record
 pub version-low : {t counts starts places : List ℕ} {r i : ℕ} → Reading t counts starts places → r < runCount t → i ≡ r
     → getD places r 0 < countOf t r → getD places i 0 < getD counts i 0
 version-low {counts = counts} {places = places} {r} {i} g l e h =

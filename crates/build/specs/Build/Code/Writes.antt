@@ -3,22 +3,22 @@
 --     offsets-end, offsets-next                    the offsets, run by run
 --     holders-end, holders-next                    the placeholders, byte by byte
 -- Assumes nothing.
-use mathlib.Core.Path.{_≡_, refl, sym, ap, ap₂, _∙_, subst}
-use Prim.Native.Nat.{ℕ, zero, suc, _+_, _-_, _*_, _≤_, _<_}
+-- nothing written
+use mathlib.Core.Path.{_≡_, ap, ap₂, _∙_, subst}
+use Prim.Native.Nat.{ℕ, suc, _+_, _-_, _*_, _≤_, _<_}
 use native.Mathlib.Nat.{add-zero, zero-add, sub-zero}
 use native.Mathlib.Numerals.{add-one}
 use native.Mathlib.Omega.{arith}
 use mathlib.Core.List.{List, [], _∷_, _++_, append-nil, append-assoc}
 use lib.ListN.{length, getD, take, drop, set, replicate, take-append-drop, length-append, drop-of-length-le}
-use lib.Seq.{drop-at, length-take-le, drop-drop}
+use lib.Seq.{drop-at, length-take-le}
 use Rattle.number.specs.Big.{bytesOf, put}
 use Rattle.number.specs.Big.Laws.{length-bytesOf}
-use Rattle.number.specs.Big.Writes.{put-sets, put-put, length-put}
+use Rattle.number.specs.Big.Writes.{put-sets, put-put}
 use Rattle.theory.specs.Pack.{joined}
 use Rattle.theory.specs.Listed.{listed}
 use Rattle.build.specs.Build.Code.{offsetsFrom, LeastKey, Fills, Segmented}
 
--- nothing written
 pub put-nil : (s : List ℕ) (p : ℕ) → put s p [] ≡ s
 unfolding put
 put-nil s p = rw add-zero (take-append-drop p s)
