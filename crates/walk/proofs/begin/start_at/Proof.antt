@@ -1,0 +1,20 @@
+-- `walk::begin::start_at` meets its contract: one less than the segments passed, or 0. Assumes nothing.
+use Rattle.walk.specs.Start.Code.{start-zero, start-some}
+use borrow.Author.Needs.{needs}
+use Rattle.walk.proofs.begin.start_at.Statement.{statement}
+use Rattle.walk.proofs.begin.start_at.Tie as tie
+
+probed-requires : tie.Need-probed-requires
+probed-requires c κs = search needs
+
+returns : tie.Need-returns
+returns c = start-zero _ _ _ _ _ (c .before .before .before .pre) (c .before .probed .ensures) (c .if1 .taken)
+
+sub-t8 : tie.Need-sub-t8
+sub-t8 c = search needs
+
+returns-2 : tie.Need-returns-2
+returns-2 c = start-some _ _ _ _ _ (c .before .before .before .pre) (c .before .probed .ensures)
+
+pub start-at-spec : {M : Type 1} → statement M
+start-at-spec = tie.close (tie.spec probed-requires returns sub-t8 returns-2)

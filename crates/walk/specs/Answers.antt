@@ -1,0 +1,57 @@
+-- What the quick calls answer for every input (document 01, orders: get and seek 1, 4, 10). Assumes nothing.
+pub mod Code
+use Prim.Native.Nat.{ℕ}
+use mathlib.Core.Bool.{cond}
+use mathlib.Core.List.{List, map}
+use lib.ListN.{replicate}
+use Rattle.number.specs.Big.{be}
+use Rattle.refusal.specs.declared.Refusal.{Refusal}
+use Rattle.refusal.specs.declared.Refusal.the-variants.{TrayFrame, IndexFrame, Lost}
+use Rattle.tray.specs.declared.Place.{Place}
+use Rattle.tray.specs.Frame.{runCount, framed}
+use Rattle.index.specs.Layout.{segmentCount, indexFramed}
+use Rattle.walk.specs.declared.cursor.Cursor.{Cursor}
+use Rattle.walk.specs.declared.cursor.Sight.{Sight}
+use Rattle.walk.specs.declared.cursor.Sight.the-variants.{Found as SightFound, End as SightEnd, Lost as SightLost}
+use Rattle.walk.specs.declared.cursor.Sought.{Sought}
+use Rattle.walk.specs.declared.calls.Seeks.{Seeks}
+use Rattle.walk.specs.declared.calls.SeekAnswer.the-variants.{Found, End, Refused}
+use Rattle.walk.specs.Walk.{Spot, Walked, stayed, ended, lost}
+use Rattle.walk.specs.Reads.{seek, endSpot}
+
+-- a cursor as a value of the library
+unfoldable pub cursorOf : Spot → Cursor
+cursorOf c = record { segment = record { 0 = c .segment }; selector = c .selector; places = map (λ (p : ℕ). record { 0 = p }) (c .places) }
+
+-- the cursor of a refused seek
+unfoldable pub noCursor : Cursor
+noCursor = record { segment = record { 0 = 0 }; selector = 0; places = replicate 63 (record { 0 = 0 }) }
+
+-- a refused seek
+abbrev pub refusedSeek : Refusal → Seeks
+refusedSeek r = record { answer = Refused r; cursor = noCursor }
+
+-- a walk's end as seek's answer, for the index x
+unfoldable pub seekTold : List ℕ → Walked ℕ Rattle.walk.specs.Reads.Found → Seeks
+seekTold x (stayed f) = record { answer = Found (record { 0 = f .run }) (record { 0 = f .place }); cursor = cursorOf (f .spot) }
+seekTold x (ended st) = record { answer = End; cursor = cursorOf (endSpot x) }
+seekTold x (lost g s st) = refusedSeek (Lost g s)
+
+-- seek where both frames fit
+unfoldable pub seekFramed : List ℕ → List ℕ → ℕ → Seeks
+seekFramed t x key = seekTold x (seek t x key)
+
+-- seek: 1, then 4, then the walk
+unfoldable pub seekAnswer : List ℕ → List ℕ → List ℕ → Seeks
+seekAnswer t x key =
+    let walked = seekFramed t x (be 8 key 0) in
+    cond (framed t) (cond (indexFramed (runCount t) x) walked (refusedSeek IndexFrame)) (refusedSeek TrayFrame)
+
+-- the same of what the code's walk hands over, for an index of n segments
+abbrev pub toldAs : ℕ → Sight → Cursor → Seeks
+toldAs n (SightFound run place) c = record { answer = Found run place; cursor = c }
+toldAs n SightEnd c = record { answer = End; cursor = record { segment = record { 0 = n }; selector = 0; places = replicate 63 (record { 0 = 0 }) } }
+toldAs n (SightLost g s) c = refusedSeek (Lost g s)
+
+abbrev pub toldSeek : ℕ → Sought → Seeks
+toldSeek n s = toldAs n (s .sight) (s .cursor)
