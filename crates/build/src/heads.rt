@@ -46,6 +46,7 @@ pub fn fill_keys(
     }
 }
 
+// The lesser of two.
 fn lesser(a: u64, b: u64) -> u64
     ensures { λ m. ⌜ Lesser a b m ⌝ }
 {

@@ -8,6 +8,7 @@ pub mod Next
 pub mod Standing
 pub mod Page
 pub mod Pages
+pub mod Sheet
 use Prim.Native.Nat.{ℕ, zero, suc, _+_, _-_, _*_, _^_}
 use mathlib.Core.Bool.{Bool, true, false, cond, _&&_, _||_}
 use mathlib.Core.List.{List, [], _∷_, _++_}

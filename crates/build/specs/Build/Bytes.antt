@@ -3,6 +3,7 @@
 --     selector-low, selector-real               a selector is a byte and no placeholder
 --     cuts-low                                  the records of a tray are of runs below 63
 --     bytes-segmentsBytes, bytes-indexBytes     they are bytes
+--     runAt-has, total-short                    what all runs have, and how many records they have at most
 --     cuts-anchor, cuts-count, cuts-few         anchors, offsets and the segment count fit into their bytes
 -- Assumes nothing.
 use mathlib.Core.Path.{_≡_, refl, sym, _∙_}

@@ -52,7 +52,7 @@ pub record Caching (t counts starts places keys : List ℕ) : Type 0 where
   pub padded : Padded keys (runCount t)
   pub keys-are : (r : ℕ) → r < runCount t → getD keys r 0 ≡ nextKey t places r
 
--- a is the lesser one of two
+-- m is the lesser of a and b
 pub record Lesser (a b m : ℕ) : Type 0 where
   pub left : m ≤ a
   pub right : m ≤ b

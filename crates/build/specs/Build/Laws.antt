@@ -1,5 +1,6 @@
 -- Laws of `cuts`: what the segments of a tray are, before any byte of them is written.
 --     Ready                        a tray that an index with segments of d can be built for
+--     below-64                     few enough runs for one number to order the view by
 --     group-length                 a key has at most one version in each run
 --     cuts-joined                  the segments put together are the view
 --     cuts-full, cuts-fit          no segment is empty, and none has more than d records

@@ -2,9 +2,9 @@
 -- each, in order; then the cursor of the first unwritten one, or the end. Nothing else of the output changes.
 --     listing, written               the bytes of some records, and an output with them written
 --     listing-append, length-listing     end to end, and how long
---     fits, paged                    how many records fit, and what a page of these stops comes to
+--     room, paged                    how many records fit, and what a page of these stops comes to
 --     page-is                        a page is that
---     page-progress                  with 24 bytes of room it writes a record or says the end
+-- Not here: pages put together, which are in `Reads/Pages.antt`.
 -- Assumes nothing.
 use mathlib.Core.Path.{_≡_, refl, sym, ap, ap₂, _∙_, subst}
 use Prim.Native.Nat.{ℕ, zero, suc, _+_, _-_, _*_, _/_, _≤_, _<_}
@@ -21,10 +21,9 @@ use Rattle.number.specs.Big.Laws.{length-bytesOf}
 use Rattle.theory.specs.Records.{Record}
 use Rattle.theory.specs.Lists.{here, all-tail}
 use Rattle.theory.specs.Rising.{Mem, All, keep}
-use Rattle.theory.specs.Tests.{cases, never}
 use Rattle.walk.specs.Walk.{Spot, Visit, stay, go, Walked, stayed, ended}
 use Rattle.walk.specs.Walk.Stops.{Reading, Stop, stops}
-use Rattle.walk.specs.Walk.Tours.{after, after-ext, tourThen, tour, firstOf, tour-same}
+use Rattle.walk.specs.Walk.Tours.{after, tourThen, tour, firstOf, tour-same, tour-kept}
 use Rattle.walk.specs.Walk.Segment.{seen}
 use Rattle.walk.specs.Reads.Shown.{pointOf, isShown, Shows, stop-shows}
 use Rattle.walk.specs.Reads.Standing.{Standing, walk-standing, standing-on}
@@ -95,19 +94,6 @@ written-length es out l = simp (length-append, length-listing, length-drop) (ome
 -- the visitor of a page at a visible stop
 abbrev pageStep : Stop → Written → Visit Written (Written × Spot)
 pageStep p w = cond (leb (24 * w .count + 24) (length (w .out))) (go (write (pointOf p) w)) (stay (w, p .spot))
-
--- stops that only pass are left out
-tour-kept : {S R : Type 0} (test : Stop → Bool) (f : Stop → S → Visit S R) (ps : List Stop) (st : S)
-    → tour (λ p w. cond (test p) (f p w) (go w)) ps st ≡ tour f (keep test ps) st
-unfolding tourThen after keep
-tour-kept test f [] st = refl
-tour-kept {S} {R} test f (p ∷ ps) st = step (test p) (tour-kept test f ps)
-  where
-    step : (b : Bool) → ((st : S) → tour (λ p w. cond (test p) (f p w) (go w)) ps st ≡ tour f (keep test ps) st)
-        → after (cond b (f p st) (go st)) (λ w. tour (λ p w. cond (test p) (f p w) (go w)) ps w)
-        ≡ tour f (cond b (p ∷ keep test ps) (keep test ps)) st
-    step true h = after-ext (f p st) h
-    step false h = h st
 
 module _ (out : List ℕ) (es : List Record) (q : Stop) where
   -- as many records as have been written

@@ -1,6 +1,7 @@
 -- Seek and get through an accepted index are the full merge's (document 01, "Reading through an index").
 --     from                       the visible stops from a key on
 --     seek-is                    seek stays at the first visible record at or above the key, and ends where there is none
+--     points, points-rise        the live part of the full merge, and that it rises
 --     lookup, get-is             get is the value of the key's record in the live part of the merge, or absent
 --     get-found, get-absent      the same from either side
 -- Assumes nothing.
@@ -120,7 +121,7 @@ module _ {t x : List ℕ} (r : Reading t x) where
           rw (n, lookup-above key (map pointOf ps) (λ e m. omega (arith, above e m))))
 
   -- the live part of the merge rises
-  points-rise : Rises keyOf (points t)
+  pub points-rise : Rises keyOf (points t)
   points-rise = rises-keep live keyOf (merged-good keyOf (sameKey keyOf) (sameKey-rule SoundRecord keyOf) (runsOf t) (good (r .sound)) .rises)
 
   pub shown-shows : All (Shows t) (shown t x)

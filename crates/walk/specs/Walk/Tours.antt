@@ -4,6 +4,7 @@
 --     tourThen-append          stops end to end
 --     tourThen-ext             what comes after may be told otherwise
 --     tour-same                and so may the visitor, stop by stop
+--     tour-kept                stops that only pass are left out
 --     tour-first               a visitor that only looks for a stop: the first that passes its test
 --     Each, each-append, each-at     a property of each member of a list and what follows it
 --     each-keep, each-on, each-both, each-all, all-each     the same of what is kept, of a later part, of two properties, and of all members
@@ -74,6 +75,19 @@ module _ {A S R : Type 0} where
           ≡ firstOf answer (cond b (p ∷ keep test ps) (keep test ps)) st
       step true h = refl
       step false h = h
+
+-- members that only pass are left out
+pub tour-kept : {A S R : Type 0} (test : A → Bool) (f : A → S → Visit S R) (ps : List A) (st : S)
+    → tour (λ p w. cond (test p) (f p w) (go w)) ps st ≡ tour f (keep test ps) st
+unfolding tourThen after keep
+tour-kept test f [] st = refl
+tour-kept {S = S} test f (p ∷ ps) st = step (test p) (tour-kept test f ps)
+  where
+    step : (b : Bool) → ((st : S) → tour (λ p w. cond (test p) (f p w) (go w)) ps st ≡ tour f (keep test ps) st)
+        → after (cond b (f p st) (go st)) (λ w. tour (λ p w. cond (test p) (f p w) (go w)) ps w)
+        ≡ tour f (cond b (p ∷ keep test ps) (keep test ps)) st
+    step true h = after-ext (f p st) h
+    step false h = h st
 
 module _ {A : Type 0} where
   -- each member and what follows it have the property

@@ -1,10 +1,12 @@
 -- What the code of build needs of its answers: each law is a way out of a function.
 --     roomAnswer            the answer for a sound tray, by the room
---     header-is, index-is   the header, and the whole index
---     most-room             a room that is surely enough
---     answer-fits, answer-short, answer-frame, answer-size, answer-refused, answer-sound     the answers
+--     header-is, size-is, index-is, size-least        the header, and the whole index
+--     records-low, most-room, part-low                how many records there are, and a room that is surely enough
+--     answer-fits, answer-short                       the answers for a sound tray
+--     leaves-index, leaves-same                       what is left in the output
+--     answer-frame, -low, -high, -refused, -sound     the answers of build
+--     sounded-is                                      what a tray that was checked is
 -- Assumes nothing.
--- the answer for a sound tray
 use mathlib.Core.Path.{_≡_, refl, sym, ap, ap₂, _∙_}
 use Prim.Native.Nat.{ℕ, _+_, _*_, _/_, _≤_, _<_}
 use native.Mathlib.Nat.{div-le-self}
@@ -40,6 +42,7 @@ use Rattle.build.specs.Build.Code.{Sounded}
 use Rattle.build.specs.Build.Code.Writes.{put-before}
 use Rattle.build.specs.Build.Code.Loops.{sounded-fits}
 
+-- the answer for a sound tray
 unfoldable pub roomAnswer : ℕ → List (List Record) → ℕ → BuildAnswer
 roomAnswer d t room = cond (leb (indexSize d t) room) (Written (indexSize d t)) (Refused (Room (indexSize d t)))
 

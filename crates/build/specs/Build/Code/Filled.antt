@@ -1,7 +1,6 @@
 -- What the code writes into a segment: key after key, as `packOn` packs them.
 --     Filled, fill-is       the selectors that are written, and what is left after them
 -- Assumes nothing.
--- after own, the records more have been written from a place on, as they are packed
 use mathlib.Core.Path.{_≡_, refl, sym, ap, ap₂, _∙_, subst}
 use Prim.Native.Nat.{ℕ, _+_, _≤_, _<_}
 use native.Mathlib.Omega.{arith}
@@ -22,6 +21,7 @@ use Rattle.build.specs.Build.Code.Writes.{put-nil}
 use Rattle.build.specs.Build.Code.Merge.{Stand, Group, group-drawn}
 use Rattle.build.specs.Build.Code.Spelled.{group-taken, group-stand, group-first}
 
+-- after own, the records more have been written from a place on, as they are packed
 pub record Filled (t : List ℕ) (d : ℕ) (b own w : List Item) (places′ seg seg′ : List ℕ) (at e : ℕ) : Type 0 where
   pub more : List Item
   pub left : List Item

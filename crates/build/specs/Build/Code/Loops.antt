@@ -4,7 +4,6 @@
 --     front-long, front-back, lent-long, lent-back        a stretch that is lent and given back
 --     Writing, writing-none, -room, -more, -end           the segments so far, in the output
 -- Assumes nothing.
--- g segments have been cut, and so many records are left
 use mathlib.Core.Path.{_≡_, refl, sym, ap, ap₂, _∙_}
 use Prim.Native.Nat.{ℕ, suc, _+_, _-_, _*_, _≤_, _<_}
 use native.Mathlib.Nat.{add-zero, zero-mul}
@@ -39,6 +38,7 @@ use Rattle.build.specs.Build.Code.Writes.{put-nil}
 use Rattle.build.specs.Build.Code.Merge.{Stand}
 use Rattle.build.specs.Build.Code.Segments.{Cutting, segment-is}
 
+-- g segments have been cut, and so many records are left
 pub record Merging (t : List ℕ) (d : ℕ) (places : List ℕ) (left g : ℕ) : Type 0 where
   pub before : List Item
   pub rest : List Item

@@ -3,7 +3,6 @@
 --     nextKey-has                  the next key of a run with something left
 --     Group, group-drawn           the records of the runs that are drawn: the view's next ones, and all that have their key
 -- Assumes nothing.
--- the records b have been read, w are left, and the places say so
 use mathlib.Core.Path.{_≡_, sym, ap, _∙_, subst}
 use Prim.Native.Nat.{ℕ, _^_, _≤_, _<_}
 use native.Mathlib.Nat.{zero-add}
@@ -38,6 +37,7 @@ use Rattle.build.specs.Build.Bytes.{runAt-has}
 use Rattle.build.specs.Build.Code.{highest, keyOr, nextKey, drawn, LeastKey}
 use Rattle.build.specs.Build.Code.Draws.{drawn-rises, drawn-mem, mem-drawn}
 
+-- the records b have been read, w are left, and the places say so
 pub record Stand (t : List ℕ) (b w : List Item) (places : List ℕ) : Type 0 where
   pub cut : Cut (runsOf t) b w
   pub is : places ≡ placesOf b

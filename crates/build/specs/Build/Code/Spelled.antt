@@ -4,7 +4,6 @@
 --     spell-marks           the first record of a group is not old, and the others are
 --     group-stand           after a group the code stands behind its records
 -- Assumes nothing.
--- the selectors of records, the first with a mark and the others old
 use mathlib.Core.Path.{_≡_, refl, sym, ap, ap₂, _∙_, subst}
 use mathlib.Core.Logic.{⊎-elim}
 use Prim.Native.Nat.{ℕ, suc, _+_, _≤_, _<_}
@@ -38,6 +37,7 @@ use Rattle.build.specs.Build.Code.{spelling, written, takeAll}
 use Rattle.build.specs.Build.Code.Writes.{put-nil, put-cons}
 use Rattle.build.specs.Build.Code.Merge.{Stand, Stands, stands, Group}
 
+-- the selectors of records, the first with a mark and the others old
 unfoldable pub spell : ℕ → List Item → List ℕ
 spell mark [] = []
 spell mark (e ∷ es) = (e .run + (mark + cond (live (e .item)) 0 64)) ∷ spell 128 es

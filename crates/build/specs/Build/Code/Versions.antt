@@ -1,6 +1,9 @@
 -- What the code of the versions of a key needs: each law is a way out of a function, or a turn of its loop.
+--     version-low, mark-low, took                     one version of a key taken
+--     group-next                                      the next run of a group
+--     Taking, taking-none, -head, -more, -all         the versions of a key, one by one
+--     Filling, filling-none, -more, -all              the keys of a segment, one by one
 -- Assumes nothing.
--- a run that has a next record
 use mathlib.Core.Path.{_≡_, refl, sym, ap, _∙_, subst}
 use Prim.Native.Nat.{ℕ, zero, suc, _+_, _≤_, _<_}
 use native.Mathlib.Nat.{add-zero}
@@ -20,6 +23,7 @@ use Rattle.index.specs.Scan.Code.{Reading}
 use Rattle.build.specs.Build.Code.{keyOr, nextKey, Caching, spelling, Takeable, more, Took, written, takeAll, Puts, Fills, ends, goes}
 use Rattle.build.specs.Build.Code.Heads.{next-is}
 
+-- a run that has a next record
 pub version-low : {t counts starts places : List ℕ} {r i : ℕ} → Reading t counts starts places → r < runCount t → i ≡ r
     → getD places r 0 < countOf t r → getD places i 0 < getD counts i 0
 version-low {counts = counts} {places = places} {r} {i} g l e h =

@@ -3,7 +3,6 @@
 --     offsets-end, offsets-next                    the offsets, run by run
 --     holders-end, holders-next                    the placeholders, byte by byte
 -- Assumes nothing.
--- nothing written
 use mathlib.Core.Path.{_≡_, ap, ap₂, _∙_, subst}
 use Prim.Native.Nat.{ℕ, suc, _+_, _-_, _*_, _≤_, _<_}
 use native.Mathlib.Nat.{add-zero, zero-add, sub-zero}
