@@ -4,11 +4,15 @@
 pub mod Kept
 pub mod Shown
 pub mod Seek
-pub mod Next
+pub mod From
 pub mod Standing
+pub mod Next
 pub mod Page
 pub mod Pages
 pub mod Sheet
+pub mod Prefix
+pub mod Selectors
+pub mod Belongs
 use Prim.Native.Nat.{ℕ, zero, suc, _+_, _-_, _*_, _^_}
 use mathlib.Core.Bool.{Bool, true, false, cond, _&&_, _||_}
 use mathlib.Core.List.{List, [], _∷_, _++_}

@@ -10,7 +10,7 @@ use lib.Dec.{leb}
 use Rattle.index.specs.Layout.{sizeOf, segmentCount, segmentAt, anchorFrom}
 
 module _ (h : ℕ) (x : List ℕ) (key : ℕ) where
-  -- the anchor of segment g is at or below the key
+  -- how many segments are passed when none remain, where those from `first` on and before `past` do and k probes are left
   unfoldable pub probe : ℕ → ℕ → ℕ → ℕ
   probe zero first past = first
   probe (suc k) first past =

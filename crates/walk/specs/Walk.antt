@@ -2,7 +2,7 @@
 -- place is at or past the run's count, loses the walk; what happens at any other selector is a visitor's to say. Passing a record raises its
 -- run's place by one; the one where the walk stays raises none. After segment S-1 comes the end. It reads counts, index bytes and places, and
 -- no record. Assumes nothing.
-pub mod Stops
+pub mod Spots
 pub mod Tours
 pub mod Named
 pub mod Segment

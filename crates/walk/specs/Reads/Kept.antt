@@ -1,9 +1,9 @@
 -- More laws of what is kept of a list.
---     keep-map           by a test of what the members are taken to
---     keep-append        of two lists end to end
---     keep-none          nothing, where no member passes
---     keep-both          by two tests, one after the other
---     keep-split         what is kept, taken apart, takes the list apart
+--     keep-map        by a test of what the members are taken to
+--     keep-append     of two lists end to end
+--     keep-none       nothing, where no member passes
+--     keep-both       by two tests, one after the other
+--     keep-split      what is kept, taken apart, takes the list apart
 -- Assumes nothing.
 use mathlib.Core.Path.{_≡_, refl, sym, ap, _∙_}
 use mathlib.Core.Bool.{Bool, true, false, cond, _&&_}

@@ -1,32 +1,36 @@
 -- Next through an accepted index: from a record on to the next visible one (document 01, "Reading through an index").
---     next-stops          from any stop
---     next-is             from a visible record to the next one, or the end
---     next-end            from the end, the end
---     Goes, all-by-next   from the first on by next: exactly the visible records, and then the end
---     from-by-next        the same from any key on
+--     next-spots              from any stop
+--     next-gap                from a placeholder
+--     next-shown, next-is     from a visible record to the next one, or the end
+--     next-end                from the end, the end
+--     Goes, all-by-next       from the first on by next: exactly the visible records, and then the end
+--     from-by-next            the same from any key on
 -- Assumes nothing.
 use mathlib.Core.Path.{_≡_, refl, sym, ap, _∙_, subst}
-use Prim.Native.Nat.{ℕ, _<_, _≤_}
+use Prim.Native.Nat.{ℕ, _+_, _<_, _≤_}
 use native.Mathlib.Omega.{arith}
 use mathlib.Core.Bool.{Bool, true, false, cond, _&&_}
-use mathlib.Core.List.{List, [], _∷_, _++_}
+use mathlib.Core.List.{List, [], _∷_, _++_, Memᴰ·append-right}
+use lib.ListN.{length}
 use lib.Dec.{eqb, ltb}
-use borrow.Author.Tests.{eq-eqb, ne-eqb, eqb-true, lt-ltb, le-ltb, le-leb}
+use borrow.Author.Tests.{eq-eqb, eqb-true, lt-ltb, le-ltb, le-leb}
 use Rattle.theory.specs.Rising.{Mem, All, keep}
 use Rattle.theory.specs.Rising.Kept.{keep-all}
 use Rattle.theory.specs.Tests.{cases}
-use Rattle.tray.specs.Frame.{runCount}
 use Rattle.tray.specs.Meaning.{runsOf}
-use Rattle.index.specs.Layout.{segmentCount}
-use Rattle.index.specs.Rules.{selectorOf}
-use Rattle.walk.specs.Walk.{Visit, stay, go, Walked, stayed, ended, walkFrom}
-use Rattle.walk.specs.Walk.Stops.{Reading, Stop, stops}
-use Rattle.walk.specs.Walk.Tours.{after, tourThen, tour, firstOf, tour-same, tour-first, Each, each-none, each-more, each-at, each-keep, each-both, all-each}
+use Rattle.index.specs.Layout.{sizeOf, segmentCount}
+use Rattle.index.specs.Rules.{Item, selectorOf}
+use Rattle.walk.specs.Walk.{Spot, Visit, stay, go, Walked, stayed, ended, walkFrom}
+use Rattle.walk.specs.Walk.Spots.{Reading, Stop, spotAt, spotsFrom, spots}
+use Rattle.walk.specs.Walk.Tours.{after, tourThen, firstOf, tour-same, tour-first, Each, each-none, each-more, each-at, each-keep, each-on, each-both, all-each}
 use Rattle.walk.specs.Walk.Segment.{seen}
-use Rattle.walk.specs.Walk.Laws.{WalksOn, walk-stops}
-use Rattle.walk.specs.Walk.Order.{After, stop-order}
+use Rattle.walk.specs.Walk.Pieces.{Piece}
+use Rattle.walk.specs.Walk.Laws.{WalksOn, walk-spots}
+use Rattle.walk.specs.Walk.Order.{After, from-segment, stop-order}
 use Rattle.walk.specs.Reads.Shown.{foundAt, pointOf, isShown, shown, Shows, stop-shows}
-use Rattle.walk.specs.Reads.Seek.{isFrom, seek-is}
+use Rattle.walk.specs.Reads.Seek.{isFrom, from, seek-is}
+use Rattle.walk.specs.Reads.From.{from-on}
+use Rattle.walk.specs.Reads.Standing.{at-gap, walk-standing}
 use Rattle.walk.specs.Reads.{Found, unmarked, foundBy, endSpot, seek, nextVisit, next}
 
 -- going on by next from an answer of seek or next: it stays at each stop in turn, and then the end comes
@@ -51,12 +55,12 @@ module _ {t x : List ℕ} (r : Reading t x) where
       off false = refl
 
   -- a later stop is stayed at where its record is visible
-  next-later : (p q : Stop) → After p q → Shows t q → (st : ℕ)
-      → seen t (nextVisit (p .spot)) q st ≡ cond (isShown t q) (stay (foundAt q)) (go st)
+  next-later : (c : Spot) (q : Stop) → After c (q .spot) → Shows t q → (st : ℕ)
+      → seen t (nextVisit c) q st ≡ cond (isShown t q) (stay (foundAt q)) (go st)
   unfolding nextVisit
-  next-later p q after s st =
-      let late : cond (eqb (q .spot .segment) (p .spot .segment)) (ltb (p .spot .selector) (q .spot .selector)) true ≡ true =
-      cases (eqb (q .spot .segment) (p .spot .segment)) (λ y. rw y (lt-ltb _ _ (after (eqb-true _ _ y)))) (λ n. rw n) in
+  next-later c q after s st =
+      let late : cond (eqb (q .spot .segment) (c .segment)) (ltb (c .selector) (q .spot .selector)) true ≡ true =
+      cases (eqb (q .spot .segment) (c .segment)) (λ y. rw y (lt-ltb _ _ (after (eqb-true _ _ y)))) (λ n. rw n) in
       rw (late, s .marks, s .finds) (on (isShown t q))
     where
       on : (b : Bool) → cond (b && true) (stay (foundAt q)) (go st) ≡ cond b (stay (foundAt q)) (go st)
@@ -64,23 +68,36 @@ module _ {t x : List ℕ} (r : Reading t x) where
       on false = refl
 
   -- from a stop to the first visible one that follows it
-  next-stop : (p : Stop) (qs : List Stop) → WalksOn ℕ Found t x p qs → All (After p) qs → All (Shows t) qs
+  next-stop : (p : Stop) (qs : List Stop) → WalksOn ℕ Found t x p qs → All (λ q. After (p .spot) (q .spot)) qs → All (Shows t) qs
       → next t x (p .spot) ≡ firstOf foundAt (keep (isShown t) qs) 0
   unfolding next tourThen after
   next-stop p qs walks late shows =
       walks (nextVisit (p .spot)) 0 ∙ rw (next-here p)
-      (tour-same (seen t (nextVisit (p .spot))) _ qs (λ q m. next-later p q (late q m) (shows q m)) 0
+      (tour-same (seen t (nextVisit (p .spot))) _ qs (λ q m. next-later (p .spot) q (late q m) (shows q m)) 0
       ∙ tour-first (isShown t) foundAt qs 0)
 
-  pub next-stops : Each (λ p qs. next t x (p .spot) ≡ firstOf foundAt (keep (isShown t) qs) 0) (stops t x)
-  next-stops =
-      let both : Each (λ p qs. All (After p) qs × All (Shows t) qs) (stops t x) =
-      each-both (stop-order r) (all-each (stops t x) (stop-shows r)) (λ p qs late shows. (late, shows .1)) in
-      each-both (walk-stops r ℕ Found) both (λ p qs walks b. next-stop p qs walks (b .0) (b .1))
+  pub next-spots : Each (λ p qs. next t x (p .spot) ≡ firstOf foundAt (keep (isShown t) qs) 0) (spots t x)
+  next-spots =
+      let both : Each (λ p qs. All (λ q. After (p .spot) (q .spot)) qs × All (Shows t) qs) (spots t x) =
+      each-both (stop-order r) (all-each (spots t x) (stop-shows r)) (λ p qs late shows. (late, shows .1)) in
+      each-both (walk-spots r ℕ Found) both (λ p qs walks b. next-stop p qs walks (b .0) (b .1))
+
+  -- from a placeholder behind a segment's records
+  pub next-gap : {k g s : ℕ} {b own left : List Item} (us : List Stop) {qs : List Stop} → Piece t x k g b own left → length own ≤ s → s < sizeOf x
+      → qs ≡ spotsFrom t x k (g + 1) (b ++ own) left → spots t x ≡ us ++ qs → next t x (spotAt g s (b ++ own)) ≡ firstOf foundAt (keep (isShown t) qs) 0
+  unfolding next
+  next-gap {k} {g} {s} {b} {own} {left} us {qs} piece l u is e =
+      walk-standing r (at-gap us piece l u is e) (nextVisit (spotAt g s (b ++ own))) 0
+      ∙ tour-same (seen t (nextVisit (spotAt g s (b ++ own)))) _ qs (λ q m. next-later (spotAt g s (b ++ own)) q (late q m)
+      (stop-shows r q (subst (Mem q) (sym e) (Memᴰ·append-right us m)))) 0
+      ∙ tour-first (isShown t) foundAt qs 0
+    where
+      late : (q : Stop) → Mem q qs → q .spot .segment ≡ g → s < q .spot .selector
+      late q m same = absurd (omega (arith, from-segment t x k (g + 1) (b ++ own) left q (subst (Mem q) is m)))
 
   pub next-shown : Each (λ p qs. next t x (p .spot) ≡ firstOf foundAt qs 0) (shown t x)
   unfolding shown
-  next-shown = each-keep (isShown t) next-stops
+  next-shown = each-keep (isShown t) next-spots
 
   pub next-is : (us : List Stop) (p : Stop) (qs : List Stop) → shown t x ≡ us ++ (p ∷ qs) → next t x (p .spot) ≡ firstOf foundAt qs 0
   next-is = each-at next-shown
@@ -96,3 +113,9 @@ module _ {t x : List ℕ} (r : Reading t x) where
       subst (λ a. Goes t x a (shown t x))
       (sym (seek-is r 0 ∙ ap (λ l. firstOf foundAt l 0) (keep-all (isFrom 0) (shown t x) (λ p m. le-leb 0 (pointOf p .key) (omega arith)))))
       (goes next-shown)
+
+  pub from-by-next : (key : ℕ) → Goes t x (seek t x key) (from t x key)
+  from-by-next key =
+      let on = from-on r key in
+      subst (λ a. Goes t x a (from t x key)) (sym (seek-is r key))
+      (goes (each-on (on .0) (subst (Each (λ p qs. next t x (p .spot) ≡ firstOf foundAt qs 0)) (on .1) next-shown)))

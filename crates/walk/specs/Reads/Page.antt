@@ -1,28 +1,27 @@
 -- A page through an accepted index (document 01, "Reading through an index"): the first visible records from its cursor on that fit, 24 bytes
 -- each, in order; then the cursor of the first unwritten one, or the end. Nothing else of the output changes.
---     listing, written               the bytes of some records, and an output with them written
---     listing-append, length-listing     end to end, and how long
---     room, paged                    how many records fit, and what a page of these stops comes to
---     page-is                        a page is that
+--     listing, written     the bytes of some records, and an output with them written
+--     listing-append, length-listed, length-listing     end to end, and how long
+--     room, paged          how many records fit, and what a page of these stops comes to
+--     page-is              a page is that
 -- Not here: pages put together, which are in `Reads/Pages.antt`.
 -- Assumes nothing.
 use mathlib.Core.Path.{_≡_, refl, sym, ap, ap₂, _∙_, subst}
-use Prim.Native.Nat.{ℕ, zero, suc, _+_, _-_, _*_, _/_, _≤_, _<_}
+use Prim.Native.Nat.{ℕ, zero, suc, _+_, _*_, _/_, _≤_, _<_}
 use native.Mathlib.Nat.{add-zero}
 use native.Mathlib.Omega.{arith}
-use mathlib.Core.Bool.{Bool, true, false, cond}
-use mathlib.Core.List.{List, [], _∷_, _++_, map, map-append, append-assoc, append-nil, Memᴰ·append-right}
-use lib.ListN.{length, take, drop, length-append, length-map, length-take, length-drop}
-use lib.Seq.{take-at, drop-at, drop-drop, take-nil, drop-nil, drop-append-add, append-snoc}
+use mathlib.Core.Bool.{cond}
+use mathlib.Core.List.{List, [], _∷_, _++_, map, append-assoc, append-nil, Memᴰ·append-right}
+use lib.ListN.{length, take, drop, length-append, length-drop}
+use lib.Seq.{take-at, drop-drop, take-nil, drop-nil, drop-append-add, append-snoc}
 use lib.Dec.{leb}
-use borrow.Author.Tests.{leb-true, leb-false, le-leb, lt-leb}
+use borrow.Author.Tests.{le-leb, lt-leb}
 use Rattle.number.specs.Big.{put}
 use Rattle.number.specs.Big.Laws.{length-bytesOf}
 use Rattle.theory.specs.Records.{Record}
-use Rattle.theory.specs.Lists.{here, all-tail}
-use Rattle.theory.specs.Rising.{Mem, All, keep}
-use Rattle.walk.specs.Walk.{Spot, Visit, stay, go, Walked, stayed, ended}
-use Rattle.walk.specs.Walk.Stops.{Reading, Stop, stops}
+use Rattle.theory.specs.Rising.{Mem, keep}
+use Rattle.walk.specs.Walk.{Spot, Visit, stay, go, Walked}
+use Rattle.walk.specs.Walk.Spots.{Reading, Stop}
 use Rattle.walk.specs.Walk.Tours.{after, tourThen, tour, firstOf, tour-same, tour-kept}
 use Rattle.walk.specs.Walk.Segment.{seen}
 use Rattle.walk.specs.Reads.Shown.{pointOf, isShown, Shows, stop-shows}

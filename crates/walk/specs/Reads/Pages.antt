@@ -1,22 +1,22 @@
 -- Pages put together through an accepted index: exactly the visible records from the cursor on, whatever room each page has; and with 24 bytes
 -- of room each they come to the end.
---     paged-stays, paged-ends     what a page that stays, or ends, has written
---     page-progress               with 24 bytes of room a page writes a record or says the end
---     Pages, pages-are            pages put together
---     pages-come                  they come to the end
+--     bytesIn, fitting                        the bytes that a page has written, and the records that fit
+--     paged-stays, paged-ends, paged-lost     what a page that stays, or ends, has written; it is not lost
+--     page-progress                           with 24 bytes of room a page writes a record or says the end
+--     Pages, pages-are                        pages put together
+--     pages-come                              they come to the end
 -- Assumes nothing.
 use mathlib.Core.Path.{_≡_, refl, sym, ap, ap₂, _∙_, subst}
-use Prim.Native.Nat.{ℕ, zero, suc, _+_, _-_, _*_, _/_, _≤_, _<_, min}
+use Prim.Native.Nat.{ℕ, zero, suc, _-_, _*_, _≤_, _<_, min}
 use native.Mathlib.Omega.{arith}
-use mathlib.Core.Bool.{Bool}
 use mathlib.Core.List.{List, [], _∷_, _++_, map, map-append, append-nil}
-use lib.ListN.{length, take, drop, length-append, length-map, length-take, length-drop, take-append-drop}
+use lib.ListN.{length, take, drop, length-map, length-take, length-drop, take-append-drop}
 use lib.Seq.{take-at}
 use Rattle.theory.specs.Records.{Record}
 use Rattle.theory.specs.Rising.{keep}
 use Rattle.theory.specs.Tests.{never}
 use Rattle.walk.specs.Walk.{Spot, Walked, stayed, ended, lost}
-use Rattle.walk.specs.Walk.Stops.{Reading, Stop, stops}
+use Rattle.walk.specs.Walk.Spots.{Reading, Stop}
 use Rattle.walk.specs.Walk.Tours.{firstOf}
 use Rattle.walk.specs.Reads.Shown.{pointOf, isShown}
 use Rattle.walk.specs.Reads.Standing.{Standing, standing-kept}
@@ -132,12 +132,14 @@ module _ {t x : List ℕ} (r : Reading t x) where
 
     -- one page, and then the others
     pages-step : {c : Spot} {ps : List Stop} (i : ℕ) → Standing t x c ps
-        → ((c′ : Spot) (zs : List Stop) → Standing t x c′ zs → length (seenIn zs) < length (seenIn ps) → (bytes : List ℕ) × Pages t x outs (suc i) c′ bytes)
+        → ((c′ : Spot) (zs : List Stop) → Standing t x c′ zs → length (seenIn zs) < length (seenIn ps)
+        → (bytes : List ℕ) × Pages t x outs (suc i) c′ bytes)
         → (bytes : List ℕ) × Pages t x outs i c bytes
     pages-step {c} {ps} i at others = go (page t x c (outs i)) refl
       where
         go : (a : Walked Written (Written × Spot)) → page t x c (outs i) ≡ a → (bytes : List ℕ) × Pages t x outs i c bytes
-        go (stayed a) e = let k = page-fewer {c′ = a .1} {w = a .0} i at e in let more = others (a .1) (k .0) (k .1) (k .2) in (bytesIn (a .0) ++ more .0, pages-on e (more .1))
+        go (stayed a) e = let k = page-fewer {c′ = a .1} {w = a .0} i at e in
+            let more = others (a .1) (k .0) (k .1) (k .2) in (bytesIn (a .0) ++ more .0, pages-on e (more .1))
         go (ended w) e = (bytesIn w, pages-end e)
         go (lost g s w) e = paged-lost (seenIn ps) (outs i) (sym (page-is r at (outs i)) ∙ e)
 

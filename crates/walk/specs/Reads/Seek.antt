@@ -1,18 +1,19 @@
 -- Seek and get through an accepted index are the full merge's (document 01, "Reading through an index").
---     from                       the visible stops from a key on
---     seek-is                    seek stays at the first visible record at or above the key, and ends where there is none
---     points, points-rise        the live part of the full merge, and that it rises
---     lookup, get-is             get is the value of the key's record in the live part of the merge, or absent
---     get-found, get-absent      the same from either side
+--     isFrom, from              the visible stops from a key on
+--     seek-is                   seek stays at the first visible record at or above the key, and ends where there is none
+--     points, points-rise       the live part of the full merge, and that it rises
+--     shown-shows               what the visible stops show
+--     lookup, get-is            get is the value of the key's record in the live part of the merge, or absent
+--     get-found, get-absent     the same from either side
 -- Assumes nothing.
 use mathlib.Core.Path.{_≡_, refl, sym, ap, _∙_, subst}
 use mathlib.Core.Logic.{⊎-elim}
-use Prim.Native.Nat.{ℕ, _-_, _≤_, _<_}
+use Prim.Native.Nat.{ℕ, _≤_, _<_}
 use native.Mathlib.Omega.{arith}
 use mathlib.Core.Bool.{Bool, true, false, cond, _&&_}
-use mathlib.Core.List.{List, [], _∷_, _++_, map, Memᴰ·map, Memᴰ·append-right, List·Memᴰ·not-nil, List·Memᴰ·cases-cons}
+use mathlib.Core.List.{List, [], _∷_, map, Memᴰ·map, Memᴰ·append-right, List·Memᴰ·not-nil, List·Memᴰ·cases-cons}
 use lib.Dec.{eqb, leb}
-use borrow.Author.Tests.{eqb-true, eqb-false, eq-eqb, ne-eqb, leb-true, leb-false, lt-leb}
+use borrow.Author.Tests.{eqb-false, eq-eqb, ne-eqb, leb-true, leb-false, lt-leb}
 use Rattle.theory.specs.Records.{Record, live, SoundRecord}
 use Rattle.theory.specs.Hiding.{sameKey}
 use Rattle.theory.specs.Hiding.Laws.{sameKey-rule}
@@ -24,19 +25,18 @@ use Rattle.theory.specs.Merge.Laws.{merged-good}
 use Rattle.theory.specs.Tests.{cases, clash}
 use Rattle.tray.specs.Frame.{runCount}
 use Rattle.tray.specs.Meaning.{runsOf}
-use Rattle.index.specs.Layout.{segmentCount}
 use Rattle.index.specs.Rules.{keyOf}
 use Rattle.index.specs.Scan.Entry.{good}
 use Rattle.walk.specs.Start.{start}
 use Rattle.walk.specs.Start.Laws.{start-le, before-start}
-use Rattle.walk.specs.Walk.{Visit, stay, go, Walked, stayed, ended, walkSegments}
-use Rattle.walk.specs.Walk.Stops.{Reading, Stop, stops, stopsFrom, entriesOf}
-use Rattle.walk.specs.Walk.Tours.{tour, firstOf, tour-same, tour-first}
+use Rattle.walk.specs.Walk.{stay, go, walkSegments}
+use Rattle.walk.specs.Walk.Spots.{Reading, Stop, spots, spotsFrom}
+use Rattle.walk.specs.Walk.Tours.{firstOf, tour-same, tour-first}
 use Rattle.walk.specs.Walk.Segment.{seen}
 use Rattle.walk.specs.Walk.Reached.{Reached, reach, walk-reached}
 use Rattle.walk.specs.Reads.Kept.{keep-append, keep-none, keep-both}
 use Rattle.walk.specs.Reads.Shown.{foundAt, pointOf, isShown, shown, Shows, stop-shows, shown-merged}
-use Rattle.walk.specs.Reads.{Found, seekVisit, seek, Got, value, absent, gotFrom, get}
+use Rattle.walk.specs.Reads.{seekVisit, seek, Got, value, absent, gotFrom, get}
 
 -- the key of a stop's record is at or above the key
 abbrev pub isFrom : ℕ → Stop → Bool
@@ -66,8 +66,8 @@ module _ {t x : List ℕ} (r : Reading t x) where
     seek-visit p s st = rw (s .marks, s .names, s .finds)
 
     -- before the start nothing is looked for
-    none-sought : {k : ℕ} (at : Reached t x k (start (runCount t) x key)) → keep sought (stops t x)
-        ≡ keep sought (stopsFrom t x k (start (runCount t) x key) (at .before) (at .left))
+    none-sought : {k : ℕ} (at : Reached t x k (start (runCount t) x key)) → keep sought (spots t x)
+        ≡ keep sought (spotsFrom t x k (start (runCount t) x key) (at .before) (at .left))
     none-sought {k} at =
         ap (keep sought) (at .parts) ∙ keep-append sought (at .passed) _ ∙ rw (keep-none sought (at .passed) low) refl
       where
@@ -85,10 +85,10 @@ module _ {t x : List ℕ} (r : Reading t x) where
     unfolding shown
     seek-reached {k} at =
         walk-reached r at (seekVisit t key) 0
-        ∙ tour-same (seen t (seekVisit t key)) _ (stopsFrom t x k (start (runCount t) x key) (at .before) (at .left))
+        ∙ tour-same (seen t (seekVisit t key)) _ (spotsFrom t x k (start (runCount t) x key) (at .before) (at .left))
         (λ p m. seek-visit p (stop-shows r p (subst (Mem p) (sym (at .parts)) (Memᴰ·append-right (at .passed) m)))) 0
         ∙ tour-first sought foundAt _ 0
-        ∙ ap (λ l. firstOf foundAt l 0) (sym (none-sought at) ∙ keep-both (isShown t) (isFrom key) (stops t x))
+        ∙ ap (λ l. firstOf foundAt l 0) (sym (none-sought at) ∙ keep-both (isShown t) (isFrom key) (spots t x))
 
     pub seek-is : seek t x key ≡ firstOf foundAt (from t x key) 0
     unfolding seek
@@ -126,7 +126,7 @@ module _ {t x : List ℕ} (r : Reading t x) where
 
   pub shown-shows : All (Shows t) (shown t x)
   unfolding shown
-  shown-shows p m = stop-shows r p (keep-mem (isShown t) (stops t x) m .0)
+  shown-shows p m = stop-shows r p (keep-mem (isShown t) (spots t x) m .0)
 
   pub get-is : (key : ℕ) → get t x key ≡ lookup key (points t)
   unfolding get

@@ -1,32 +1,32 @@
 -- Sheet through an accepted index (document 01, "Reading through an index"): the live records of the merge from the lower bound on and below the
 -- upper one, in order.
---     shown-rises, from-on       the visible stops rise; those from a key on are the last ones
---     Lists                      a walk that came through, and what it has listed
---     sheet-is                   what sheet lists
--- Not here: that the keys between the bounds are those that begin with the prefix. Assumes nothing.
+--     within       a record within bounds
+--     Lists        a walk that came through, and what it has listed
+--     sheet-is     what sheet lists
+-- Not here: that the bounds are those of a prefix, which is in `Reads/Prefix.antt`. Assumes nothing.
 use mathlib.Core.Path.{_≡_, refl, sym, ap, _∙_, subst}
-use Prim.Native.Nat.{ℕ, _≤_, _<_}
+use Prim.Native.Nat.{ℕ, _≤_}
 use native.Mathlib.Omega.{arith}
-use mathlib.Core.Bool.{Bool, true, false, cond, _&&_}
-use mathlib.Core.List.{List, [], _∷_, _++_, map, append-nil, append-assoc, List·Memᴰ·tail, Memᴰ·map, Memᴰ·of-map, Memᴰ·append-right}
+use mathlib.Core.Bool.{Bool, false, cond, _&&_}
+use mathlib.Core.List.{List, [], _∷_, _++_, map, append-nil, Memᴰ·of-map, Memᴰ·append-right}
 use lib.Seq.{append-snoc}
 use lib.Dec.{leb, ltb}
-use borrow.Author.Tests.{leb-true, leb-false, le-leb, lt-leb, lt-ltb, le-ltb}
+use borrow.Author.Tests.{leb-true, leb-false, lt-ltb, le-ltb}
 use Rattle.theory.specs.Records.{Record}
-use Rattle.theory.specs.Lists.{here, all-tail}
 use Rattle.theory.specs.Rising.{Mem, All, Rises, none, more, keep}
-use Rattle.theory.specs.Rising.Kept.{keep-all, rises-keep}
+use Rattle.theory.specs.Rising.Kept.{rises-keep}
 use Rattle.theory.specs.Tests.{cases}
 use Rattle.index.specs.Rules.{keyOf}
-use Rattle.walk.specs.Walk.{Spot, Visit, stay, go, Walked, stayed, ended, walkFrom}
-use Rattle.walk.specs.Walk.Stops.{Reading, Stop, stops}
+use Rattle.walk.specs.Walk.{Visit, stay, go, Walked, stayed, ended, walkFrom}
+use Rattle.walk.specs.Walk.Spots.{Reading, Stop, spots}
 use Rattle.walk.specs.Walk.Tours.{after, tourThen, tour, firstOf, tour-same, tour-kept}
 use Rattle.walk.specs.Walk.Segment.{seen}
 use Rattle.walk.specs.Reads.Kept.{keep-map, keep-none, keep-both, keep-split}
 use Rattle.walk.specs.Reads.Shown.{foundAt, pointOf, isShown, shown, Shows, stop-shows, shown-merged}
-use Rattle.walk.specs.Reads.Seek.{isFrom, from, seek-is, points, points-rise}
+use Rattle.walk.specs.Reads.Seek.{isFrom, from, seek-is, points}
+use Rattle.walk.specs.Reads.From.{keyAt, shown-rises, from-on}
 use Rattle.walk.specs.Reads.Standing.{at-stop, walk-standing}
-use Rattle.walk.specs.Reads.{Found, seek, sheetVisit, lowKey, highKey, sheetFrom, sheet}
+use Rattle.walk.specs.Reads.{sheetVisit, lowKey, highKey, sheetFrom, sheet}
 
 -- a walk that came to its bound or to the end, and what it has listed
 pub data Lists : Walked (List Record) (List Record) → List Record → Type 0 where
@@ -37,28 +37,10 @@ pub data Lists : Walked (List Record) (List Record) → List Record → Type 0 w
 abbrev pub within : ℕ → ℕ → Record → Bool
 within low high e = leb low (e .key) && ltb (e .key) high
 
--- the stop's key
-abbrev pub keyAt : Stop → ℕ
-keyAt p = keyOf (pointOf p)
-
 -- nothing is listed of nothing
 lists-none : (test : Record → Bool) → Lists (ended []) (keep test [])
 unfolding keep
 lists-none test = to-end
-
-rises-back : {A B : Type 0} (f : B → ℕ) (g : A → B) (xs : List A) → Rises f (map g xs) → Rises (λ a. f (g a)) xs
-rises-back f g [] r = none
-rises-back f g (a ∷ xs) (more h r) = more (λ b m. h (g b) (Memᴰ·map g m)) (rises-back f g xs r)
-
--- of rising stops those from a key on are the last ones
-from-last : (key : ℕ) {ps : List Stop} → Rises keyAt ps → (us : List Stop) × (ps ≡ us ++ keep (isFrom key) ps)
-unfolding keep
-from-last key none = ([], refl)
-from-last key (more {a = p} {xs = ps} above up) =
-    cases (isFrom key p)
-    (λ y. let l = leb-true key (keyAt p) y in
-    ([], sym (rw y (ap (λ l. p ∷ l) (keep-all (isFrom key) ps (λ q m. le-leb key (keyAt q) (omega (arith, above q m))))))))
-    (λ n. let w = from-last key up in (p ∷ w .0, rw n (ap (λ l. p ∷ l) (w .1))))
 
 module _ (high : ℕ) where
   -- the visitor of a sheet at a visible stop
@@ -84,15 +66,8 @@ module _ (high : ℕ) where
       beyond l e m = let w = Memᴰ·of-map pointOf ps m in le-ltb (e .key) high (omega (arith, above (w .0) (w .1), ap keyOf (w .2)))
 
 module _ {t x : List ℕ} (r : Reading t x) where
-  pub shown-rises : Rises keyAt (shown t x)
-  shown-rises = rises-back keyOf pointOf (shown t x) (subst (Rises keyOf) (sym (shown-merged r)) (points-rise r))
-
-  -- the visible stops from a key on are the last ones
-  pub from-on : (key : ℕ) → (us : List Stop) × (shown t x ≡ us ++ from t x key)
-  from-on key = from-last key shown-rises
-
   from-rises : (key : ℕ) → Rises keyAt (from t x key)
-  from-rises key = rises-keep (isFrom key) keyAt shown-rises
+  from-rises key = rises-keep (isFrom key) keyAt (shown-rises r)
 
   module _ (low high : ℕ) where
     sheet-visit : (p : Stop) → Shows t p → (es : List Record)
@@ -105,8 +80,8 @@ module _ {t x : List ℕ} (r : Reading t x) where
         → walkFrom t x (sheetVisit t high) (p .spot) [] ≡ tour (sheetStep high) (from t x low) []
     unfolding shown
     sheet-walk p ps e =
-        let on = from-on low in
-        let w = keep-split (isShown t) (stops t x) (on .0) p ps (on .1 ∙ ap (λ l. on .0 ++ l) e) in
+        let on = from-on r low in
+        let w = keep-split (isShown t) (spots t x) (on .0) p ps (on .1 ∙ ap (λ l. on .0 ++ l) e) in
         walk-standing r (at-stop (w .0) (w .2)) (sheetVisit t high) []
         ∙ tour-same (seen t (sheetVisit t high)) _ (p ∷ w .1)
         (λ q m. sheet-visit q (stop-shows r q (subst (Mem q) (sym (w .2)) (Memᴰ·append-right (w .0) m)))) []

@@ -1,21 +1,18 @@
 -- What a stop of an accepted index shows to a visitor, and the stops whose records are visible.
---     Stands, stop-stands          a stop stands at its record, after the records before it
---     foundAt                      the record of a stop, as found
---     Shows, stop-shows            its selector names its record, and has no mark exactly where that is visible
---     shown, shown-merged          the stops with visible records, and that these are the live ones of the full merge
---     pointOf                      a stop's record
+--     Stands, stop-stands              a stop stands at its record, after the records before it
+--     foundAt                          the record of a stop, as found
+--     Shows, stop-shows                its selector names its record, and has no mark exactly where that is visible
+--     isShown, shown, shown-merged     the stops with visible records, and that these are the live ones of the full merge
+--     pointOf                          a stop's record
 -- Assumes nothing.
 use mathlib.Core.Path.{_≡_, refl, sym, ap, ap₂, _∙_}
-use Prim.Native.Nat.{ℕ, _+_, _%_, _<_}
-use native.Mathlib.Omega.{arith}
-use mathlib.Core.Bool.{Bool, true, false, cond}
+use Prim.Native.Nat.{ℕ, _+_, _%_}
+use mathlib.Core.Bool.{Bool}
 use mathlib.Core.List.{List, [], _∷_, _++_, map, map-append, map-map, append-assoc}
 use lib.ListN.{length, getD}
-use lib.Dec.{ltb}
 use Rattle.theory.specs.Records.{Record, live, SoundRecord}
 use Rattle.theory.specs.Hiding.{sameKey}
 use Rattle.theory.specs.Hiding.Laws.{sameKey-rule}
-use Rattle.theory.specs.Lists.{here, all-nil, all-cons}
 use Rattle.theory.specs.Rising.{All, keep}
 use Rattle.theory.specs.Merge.{merged}
 use Rattle.theory.specs.View.{view, visible}
@@ -28,11 +25,10 @@ use Rattle.tray.specs.Meaning.{runsOf}
 use Rattle.index.specs.Rules.{keyOf, Item, selectorOf}
 use Rattle.index.specs.Scan.Places.{placesOf, getD-placesOf}
 use Rattle.index.specs.Scan.Entry.{few, good, head-low}
-use Rattle.walk.specs.Walk.{Spot}
-use Rattle.walk.specs.Walk.Stops.{Reading, Stop, spotAt, stopsIn, stopsFrom, stops, entriesOf, entries-in}
+use Rattle.walk.specs.Walk.Spots.{Reading, Stop, spotAt, spotsIn, spotsFrom, spots, entriesOf, entries-in}
 use Rattle.walk.specs.Walk.Tours.{Each, each-none, each-more, each-all}
 use Rattle.walk.specs.Walk.Named.{entry-head, selector-run, selector-record, selector-unmarked}
-use Rattle.walk.specs.Walk.Pieces.{Piece, each-stops, entries-from, entries-stops}
+use Rattle.walk.specs.Walk.Pieces.{Piece, each-spots, entries-from, entries-spots}
 use Rattle.walk.specs.Walk.Laws.{each-in}
 use Rattle.walk.specs.Reads.Kept.{keep-map}
 use Rattle.walk.specs.Reads.{recordBy, unmarked, Found, foundBy}
@@ -57,7 +53,7 @@ isShown t p = visible (sameKey keyOf) live (runsOf t) (p .entry)
 
 -- the stops of an index whose records are visible
 unfoldable pub shown : List ℕ → List ℕ → List Stop
-shown t x = keep (isShown t) (stops t x)
+shown t x = keep (isShown t) (spots t x)
 
 -- what a stop's selector says of its record
 pub record Shows (t : List ℕ) (p : Stop) : Type 0 where
@@ -90,23 +86,23 @@ stands-shows {t} sound p qs st =
     }
 
 module _ {t x : List ℕ} (r : Reading t x) where
-  pub stop-stands : Each (Stands t) (stops t x)
-  stop-stands = each-stops r (λ k g b own left piece. each-in _ g b own (at k g b own left piece))
+  pub stop-stands : Each (Stands t) (spots t x)
+  stop-stands = each-spots r (λ k g b own left piece. each-in _ g b own (at k g b own left piece))
     where
       at : (k g : ℕ) (b own left : List Item) → Piece t x k g b own left
           → (s : ℕ) (us : List Item) (e : Item) (es : List Item) → own ≡ us ++ (e ∷ es) → s ≡ length us
           → Stands t (record { entry = e; spot = spotAt g s (b ++ us) })
-          (stopsIn g (s + 1) (b ++ us ++ (e ∷ [])) es ++ stopsFrom t x k (g + 1) (b ++ own) left)
+          (spotsIn g (s + 1) (b ++ us ++ (e ∷ [])) es ++ spotsFrom t x k (g + 1) (b ++ own) left)
       at k g b own left piece s us e es p q =
-          let those : entriesOf (stopsIn g (s + 1) (b ++ us ++ (e ∷ [])) es ++ stopsFrom t x k (g + 1) (b ++ own) left) ≡ es ++ left =
-          map-append (λ p. p .entry) (stopsIn g (s + 1) (b ++ us ++ (e ∷ [])) es) _ ∙ rw (entries-in, entries-from k (piece .later)) refl in
+          let those : entriesOf (spotsIn g (s + 1) (b ++ us ++ (e ∷ [])) es ++ spotsFrom t x k (g + 1) (b ++ own) left) ≡ es ++ left =
+          map-append (λ p. p .entry) (spotsIn g (s + 1) (b ++ us ++ (e ∷ [])) es) _ ∙ rw (entries-in, entries-from k (piece .later)) refl in
           record {
             before = b ++ us;
             whole = piece .whole ∙ ap (λ l. b ++ (l ++ left)) p ∙ rw those (simp append-assoc);
             places = refl;
           }
 
-  pub stop-shows : All (Shows t) (stops t x)
+  pub stop-shows : All (Shows t) (spots t x)
   stop-shows = each-all (go stop-stands)
     where
       go : {ps : List Stop} → Each (Stands t) ps → Each (λ p qs. Shows t p) ps
@@ -117,7 +113,7 @@ module _ {t x : List ℕ} (r : Reading t x) where
   pub shown-merged : map pointOf (shown t x) ≡ keep live (merged keyOf (sameKey keyOf) (runsOf t))
   unfolding shown
   shown-merged =
-      sym (map-map (λ e. e .item) (λ p. p .entry) (keep (isShown t) (stops t x)))
-      ∙ ap (map (λ e. e .item)) (keep-map (λ p. p .entry) (visible (sameKey keyOf) live (runsOf t)) (stops t x))
-      ∙ ap (λ l. map (λ e. e .item) (keep (visible (sameKey keyOf) live (runsOf t)) l)) (entries-stops r)
+      sym (map-map (λ e. e .item) (λ p. p .entry) (keep (isShown t) (spots t x)))
+      ∙ ap (map (λ e. e .item)) (keep-map (λ p. p .entry) (visible (sameKey keyOf) live (runsOf t)) (spots t x))
+      ∙ ap (λ l. map (λ e. e .item) (keep (visible (sameKey keyOf) live (runsOf t)) l)) (entries-spots r)
       ∙ visible-is (sameKey-rule SoundRecord keyOf) (good (r .sound)) (few (r .sound)) live

@@ -1,22 +1,23 @@
 -- Laws of where a walk starts: the anchor of the segment at which it starts is at or below the key, or it starts at the first one.
---     probe-passed, probe-le     the last segment passed has an anchor at or below the key; no more are passed than there are
---     start-le, start-low        the same of the start
---     before-start               every record before the start has a key below the one asked for
+--     Passed, probe-passed, probe-le     the last segment passed has an anchor at or below the key; no more are passed than there are
+--     probe-enough                       as many probes as segments are enough
+--     start-le, start-low                the same of the start
+--     before-start                       every record before the start has a key below the one asked for
 -- Assumes nothing.
 use mathlib.Core.Path.{_≡_, refl, sym, subst}
 use mathlib.Core.Logic.{_⊎_, inl, inr, ⊎-elim}
-use Prim.Native.Nat.{ℕ, zero, suc, pred, _+_, _/_, _≤_, _<_}
+use Prim.Native.Nat.{ℕ, zero, suc, pred, _+_, _-_, _/_, _≤_, _<_}
 use native.Mathlib.Omega.{arith}
 use mathlib.Core.List.{List, Memᴰ·of-map}
 use lib.Dec.{leb}
-use borrow.Author.Tests.{leb-true, leb-false}
+use borrow.Author.Tests.{leb-true, leb-false, le-leb}
 use Rattle.theory.specs.Rising.{Mem}
-use Rattle.theory.specs.Tests.{split}
+use Rattle.theory.specs.Tests.{split, cases}
 use Rattle.tray.specs.Frame.{runCount}
 use Rattle.index.specs.Layout.{sizeOf, segmentCount, segmentAt, anchorFrom}
 use Rattle.index.specs.Rules.{keyOf, Item}
 use Rattle.walk.specs.Start.{probe, start}
-use Rattle.walk.specs.Walk.Stops.{Reading}
+use Rattle.walk.specs.Walk.Spots.{Reading}
 use Rattle.walk.specs.Walk.Reached.{Reached, before-anchor}
 
 module _ (h : ℕ) (x : List ℕ) (key : ℕ) where
@@ -47,6 +48,16 @@ module _ (h : ℕ) (x : List ℕ) (key : ℕ) where
       split (λ n. n ≤ past) (leb (anchorFrom x (segmentAt h (sizeOf x) middle)) key)
       (λ _. probe-le k (middle + 1) past (omega arith))
       (λ _. let v = probe-le k first middle (omega arith) in omega arith))
+
+  -- a probe more changes nothing once there are as many as segments that remain: none then remain at the end
+  pub probe-enough : (k first past : ℕ) → past - first ≤ k → probe h x key (suc k) first past ≡ probe h x key k first past
+  unfolding probe
+  probe-enough zero first past l = rw (le-leb past first (omega arith))
+  probe-enough (suc k) first past l =
+      let middle : ℕ = (first + past) / 2 in
+      cases (leb past first) (λ y. rw y)
+      (λ n. let u = leb-false past first n in
+      rw (n, probe-enough k (middle + 1) past (omega arith), probe-enough k first middle (omega arith)))
 
   pub start-le : start h x key ≤ segmentCount x
   unfolding start

@@ -1,10 +1,10 @@
 -- What the selector of a record of the view says where a walk stands at it: after the records b, the next record of its run.
---     entry-head                             the record is the next one of its run
---     selector-run, selector-spells          its run; it is no placeholder
---     selector-named, selector-record        it names a record, and that record
---     selector-unmarked                      it has no mark exactly where the record is visible
+--     entry-head                          the record is the next one of its run
+--     selector-run, selector-spells       its run; it is no placeholder
+--     selector-named, selector-record     it names a record, and that record
+--     selector-unmarked                   it has no mark exactly where the record is visible
 -- Assumes nothing.
-use mathlib.Core.Path.{_≡_, refl, sym, ap, _∙_}
+use mathlib.Core.Path.{_≡_, sym, ap, _∙_}
 use Prim.Native.Nat.{ℕ, _+_, _%_, _<_}
 use native.Mathlib.Omega.{arith}
 use mathlib.Core.Bool.{Bool, true, false, cond, not, _&&_}
@@ -20,7 +20,7 @@ use Rattle.theory.specs.View.Entries.{at-low}
 use Rattle.theory.specs.View.Laws.{view-at}
 use Rattle.theory.specs.Places.{Head}
 use Rattle.theory.specs.Places.Laws.{place-count}
-use Rattle.tray.specs.Frame.{runCount, runBytes}
+use Rattle.tray.specs.Frame.{runBytes}
 use Rattle.tray.specs.Run.{recordAt}
 use Rattle.tray.specs.Check.{Sound}
 use Rattle.tray.specs.Meaning.{runsOf}

@@ -1,36 +1,37 @@
 -- An accepted index piece by piece: each segment with its own records, those before it and those that are left.
---     Piece                           a right segment, and the segments after it
---     piece-stops, stops-piece        its stops come first, and then those of the segments after it
---     piece-places                    entering it loads the places after the records before it
---     piece-ended, piece-spelled      its selectors spell its records, and then come placeholders
---     each-stops                      a property of each stop, piece by piece
---     entries-from, entries-stops     the records at the stops are the view
+--     Spelt, Piece                               the last segments, and one right segment with those after it
+--     spelt-piece                                of segments that spell some records the first is a piece
+--     piece-long, piece-spots                    as many records as it spells; its stops come first, and then those of the others
+--     past-runs                                  no record is of a run that the tray has not
+--     piece-offset, piece-places                 entering a piece loads the places after the records before it
+--     piece-ended, piece-spelled                 its selectors spell its records, and then come placeholders
+--     OfPieces, each-from, each-spots            a property of each stop, piece by piece
+--     all-spelt, entries-from, entries-spots     all segments spell the view, and the records at the stops are the view
 -- Assumes nothing.
 use mathlib.Core.Path.{_≡_, refl, sym, ap, _∙_, subst}
 use Prim.Native.Nat.{ℕ, zero, suc, _+_, _≤_, _<_}
-use native.Mathlib.Nat.{zero-add, add-zero}
+use native.Mathlib.Nat.{zero-add}
 use native.Mathlib.Omega.{arith}
 use native.Mathlib.Numerals.{add-one}
-use mathlib.Core.Bool.{true, false, cond}
-use mathlib.Core.List.{List, [], _∷_, _++_, map, map-append, append-assoc, append-nil, Memᴰ·append-left}
-use lib.ListN.{length, take, drop, length-map}
+use mathlib.Core.Bool.{cond}
+use mathlib.Core.List.{List, [], _∷_, _++_, map, map-append, append-assoc, Memᴰ·append-left}
+use lib.ListN.{length, length-map}
 use lib.Seq.{take-at, drop-at}
-use lib.Dec.{ltb, eqb}
-use borrow.Author.Tests.{ltb-true, ltb-false, eq-eqb, ne-eqb}
+use lib.Dec.{ltb}
+use borrow.Author.Tests.{ltb-true, ltb-false, ne-eqb}
 use Rattle.theory.specs.Listed.{listed}
 use Rattle.theory.specs.Listed.Laws.{listed-same}
 use Rattle.theory.specs.Lists.{here, all-tail}
 use Rattle.theory.specs.Rising.{All}
-use Rattle.theory.specs.Tests.{cases, split}
+use Rattle.theory.specs.Tests.{split}
 use Rattle.theory.specs.View.{view}
 use Rattle.theory.specs.View.Entries.{at-run}
 use Rattle.theory.specs.View.Laws.{view-at}
 use Rattle.theory.specs.Places.{count}
 use Rattle.tray.specs.Frame.{runCount}
-use Rattle.tray.specs.Check.{Sound}
 use Rattle.tray.specs.Meaning.{runsOf}
 use Rattle.tray.specs.Meaning.Laws.{length-runsOf}
-use Rattle.index.specs.Layout.{Segment, sizeOf, segmentCount, segmentAt, segmentOf, segmentsOf, offsetFrom}
+use Rattle.index.specs.Layout.{sizeOf, segmentCount, segmentAt, segmentOf, segmentsOf, offsetFrom}
 use Rattle.index.specs.Layout.Laws.{offset-at, selectors-listed}
 use Rattle.index.specs.Rules.{keyOf, Item, spelled, selectorOf, Right, Follows}
 use Rattle.index.specs.Rules.Laws.{Ended}
@@ -38,7 +39,7 @@ use Rattle.index.specs.Scan.All.{follows-none, follows-cons}
 use Rattle.index.specs.Scan.Laws.{bytesFrom}
 use Rattle.index.specs.Scan.Places.{placesOf}
 use Rattle.walk.specs.Walk.{loaded}
-use Rattle.walk.specs.Walk.Stops.{Reading, Stop, stopsIn, spells, stopsFrom, stops, entriesOf, entries-in}
+use Rattle.walk.specs.Walk.Spots.{Reading, Stop, spotsIn, spells, spotsFrom, spots, entriesOf, entries-in}
 use Rattle.walk.specs.Walk.Tours.{Each, each-none, each-append}
 use Rattle.walk.specs.Walk.Segment.{selectorsAt}
 
@@ -61,10 +62,19 @@ unfolding count
 count-none r [] h = refl
 count-none r (e ∷ b) h = rw (ne-eqb (e .run) r (h e here)) (count-none r b (all-tail h))
 
+-- no record of the view is of a run that the tray has not
+pub past-runs : (t : List ℕ) (r : ℕ) → runCount t ≤ r → (c w : List Item) → view keyOf (runsOf t) ≡ c ++ w → count r c ≡ 0
+past-runs t r l c w is =
+    count-none r c (λ e m p. omega (
+      arith,
+      length-runsOf t,
+      at-run (runsOf t) e (view-at keyOf (runsOf t) e (rw is (Memᴰ·append-left w m))),
+    ))
+
 -- of each piece, the stops, and then those of the pieces after it, have the property
 abbrev pub OfPieces : List ℕ → List ℕ → (Stop → List Stop → Type 0) → Type 0
 OfPieces t x P = (k g : ℕ) (b own left : List Item) → Piece t x k g b own left
-    → Each (λ p qs. P p (qs ++ stopsFrom t x k (g + 1) (b ++ own) left)) (stopsIn g 0 b own)
+    → Each (λ p qs. P p (qs ++ spotsFrom t x k (g + 1) (b ++ own) left)) (spotsIn g 0 b own)
 
 module _ {t x : List ℕ} where
   -- of segments that spell w the first one is a piece
@@ -86,31 +96,26 @@ module _ {t x : List ℕ} where
     pub piece-long : spells t x g ≡ length own
     piece-long = ap length (piece .right .spells) ∙ length-map own (selectorOf (runsOf t))
 
-    pub piece-stops : stopsFrom t x (suc k) g b (own ++ left) ≡ stopsIn g 0 b own ++ stopsFrom t x k (g + 1) (b ++ own) left
-    unfolding stopsFrom
-    piece-stops =
+    pub piece-spots : spotsFrom t x (suc k) g b (own ++ left) ≡ spotsIn g 0 b own ++ spotsFrom t x k (g + 1) (b ++ own) left
+    unfolding spotsFrom
+    piece-spots =
         let long : length own ≡ spells t x g = sym piece-long in
         rw (take-at own left (spells t x g) long, drop-at own left (spells t x g) long)
 
-    pub piece-places : Sound t → loaded (runCount t) x g ≡ placesOf b
-    unfolding loaded placesOf
-    piece-places sound = listed-same 63 0 0 _ _ (λ r l. rw zero-add (at r l))
-      where
-        past : (r : ℕ) → runCount t ≤ r → count r b ≡ 0
-        past r l =
-            count-none r b (λ e m p. omega (
-              arith,
-              length-runsOf t,
-              at-run (runsOf t) e (view-at keyOf (runsOf t) e (rw (piece .whole) (Memᴰ·append-left (own ++ left) m))),
-            ))
+    -- the offset of a run is the number of its records before
+    pub piece-offset : (r : ℕ) → r < runCount t → offsetFrom x (segmentAt (runCount t) (sizeOf x) g) r ≡ count r b
+    piece-offset r l =
+        sym (offset-at (runCount t) (sizeOf x) x (segmentAt (runCount t) (sizeOf x) g) r l)
+        ∙ piece .right .offsets r (omega (arith, length-runsOf t))
 
-        at : (r : ℕ) → r < 63 → cond (ltb r (runCount t)) (offsetFrom x (segmentAt (runCount t) (sizeOf x) g) r) 0 ≡ count r b
-        at r l =
-            split (λ n. n ≡ count r b) (ltb r (runCount t))
-            (λ y. let m = ltb-true r (runCount t) y in
-            sym (offset-at (runCount t) (sizeOf x) x (segmentAt (runCount t) (sizeOf x) g) r m)
-            ∙ piece .right .offsets r (omega (arith, length-runsOf t)))
-            (λ n. sym (past r (ltb-false r (runCount t) n)))
+    pub piece-places : loaded (runCount t) x g ≡ placesOf b
+    unfolding loaded placesOf
+    piece-places = listed-same 63 0 0 _ _ (λ r l. rw zero-add (at r))
+      where
+        at : (r : ℕ) → cond (ltb r (runCount t)) (offsetFrom x (segmentAt (runCount t) (sizeOf x) g) r) 0 ≡ count r b
+        at r =
+            split (λ n. n ≡ count r b) (ltb r (runCount t)) (λ y. piece-offset r (ltb-true r (runCount t) y))
+            (λ n. sym (past-runs t r (ltb-false r (runCount t) n) b (own ++ left) (piece .whole)))
 
     selectors-are : segmentOf (runCount t) x g .selectors ≡ bytesFrom x (sizeOf x) (selectorsAt t x g)
     selectors-are = selectors-listed (runCount t) (sizeOf x) x (segmentAt (runCount t) (sizeOf x) g)
@@ -122,21 +127,21 @@ module _ {t x : List ℕ} where
     piece-spelled = ap spelled (sym selectors-are) ∙ piece .right .spells
 
   pub each-from : {P : Stop → List Stop → Type 0} → OfPieces t x P → (k : ℕ) {g : ℕ} {b w : List Item} → Spelt t x k g b w
-      → Each P (stopsFrom t x k g b w)
-  unfolding stopsFrom
+      → Each P (spotsFrom t x k g b w)
+  unfolding spotsFrom
   each-from h zero f = each-none
   each-from {P} h (suc k) {g} {b} f =
       let one = spelt-piece f in let piece = one .3 in
       let those = each-append (h k g b (one .0) (one .1) piece) (each-from h k (piece .later)) in
-      subst (λ l. Each P (stopsFrom t x (suc k) g b l)) (sym (one .2)) (rw (piece-stops piece) those)
+      subst (λ l. Each P (spotsFrom t x (suc k) g b l)) (sym (one .2)) (rw (piece-spots piece) those)
 
-  pub entries-from : (k : ℕ) {g : ℕ} {b w : List Item} → Spelt t x k g b w → entriesOf (stopsFrom t x k g b w) ≡ w
-  unfolding stopsFrom listed
+  pub entries-from : (k : ℕ) {g : ℕ} {b w : List Item} → Spelt t x k g b w → entriesOf (spotsFrom t x k g b w) ≡ w
+  unfolding spotsFrom listed
   entries-from zero f = sym (follows-none (f .follows) .1)
   entries-from (suc k) {g} {b} f =
       let one = spelt-piece f in let piece = one .3 in
-      ap (λ l. entriesOf (stopsFrom t x (suc k) g b l)) (one .2) ∙ ap entriesOf (piece-stops piece)
-      ∙ map-append (λ p. p .entry) (stopsIn g 0 b (one .0)) _ ∙ rw (entries-in, entries-from k (piece .later)) (sym (one .2))
+      ap (λ l. entriesOf (spotsFrom t x (suc k) g b l)) (one .2) ∙ ap entriesOf (piece-spots piece)
+      ∙ map-append (λ p. p .entry) (spotsIn g 0 b (one .0)) _ ∙ rw (entries-in, entries-from k (piece .later)) (sym (one .2))
 
   module _ (r : Reading t x) where
     -- all segments spell the view
@@ -144,10 +149,10 @@ module _ {t x : List ℕ} where
     unfolding segmentsOf
     all-spelt = record { number = zero-add (segmentCount x); whole = refl; follows = r .accepted }
 
-    pub each-stops : {P : Stop → List Stop → Type 0} → OfPieces t x P → Each P (stops t x)
-    unfolding stops
-    each-stops h = each-from h (segmentCount x) all-spelt
+    pub each-spots : {P : Stop → List Stop → Type 0} → OfPieces t x P → Each P (spots t x)
+    unfolding spots
+    each-spots h = each-from h (segmentCount x) all-spelt
 
-    pub entries-stops : entriesOf (stops t x) ≡ view keyOf (runsOf t)
-    unfolding stops
-    entries-stops = entries-from (segmentCount x) all-spelt
+    pub entries-spots : entriesOf (spots t x) ≡ view keyOf (runsOf t)
+    unfolding spots
+    entries-spots = entries-from (segmentCount x) all-spelt

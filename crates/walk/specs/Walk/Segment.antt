@@ -1,17 +1,17 @@
 -- The walk over the selectors of one segment: where they spell the next records of the view, it visits these records one by one, each at its
 -- stop, and is not lost.
+--     selectorsAt                  where a segment's selectors start
 --     seen                         the visitor at a stop
 --     walk-passed, walk-visits     one selector: a placeholder, and one that names a record
 --     walk-filled                  only placeholders
 --     walk-segment                 the records that are spelled, and then placeholders
 -- Assumes nothing.
 use mathlib.Core.Path.{_≡_, refl, sym, ap, _∙_}
-use Prim.Native.Nat.{ℕ, zero, suc, _+_, _%_, _<_}
+use Prim.Native.Nat.{ℕ, zero, suc, _+_, _%_}
 use native.Mathlib.Omega.{arith}
-use native.Mathlib.Nat.{add-zero}
-use mathlib.Core.Bool.{Bool, true, false, cond}
+use mathlib.Core.Bool.{true}
 use mathlib.Core.List.{List, [], _∷_, _++_, map}
-use lib.ListN.{length, getD}
+use lib.ListN.{getD}
 use lib.Seq.{append-snoc}
 use lib.Dec.{eqb}
 use borrow.Author.Tests.{eqb-true, eqb-false, eq-eqb, ne-eqb}
@@ -28,7 +28,7 @@ use Rattle.index.specs.Scan.{raise}
 use Rattle.index.specs.Scan.Laws.{bytesFrom}
 use Rattle.index.specs.Scan.Places.{placesOf, raise-placesOf}
 use Rattle.walk.specs.Walk.{Spot, Visit, stay, go, Walked, stayed, selectorAt, named, walkSelectors}
-use Rattle.walk.specs.Walk.Stops.{Stop, spotAt, stopsIn}
+use Rattle.walk.specs.Walk.Spots.{Stop, spotAt, spotsIn}
 use Rattle.walk.specs.Walk.Tours.{after, after-ext, tourThen}
 use Rattle.walk.specs.Walk.Named.{selector-run, selector-spells, selector-named}
 
@@ -90,8 +90,8 @@ module _ {S R : Type 0} {t : List ℕ} (sound : Sound t) (x : List ℕ) (visit :
   pub walk-segment : (n s i : ℕ) (b es w : List Item) (st : S) → i ≡ selectorsAt t x g + s
       → view keyOf (runsOf t) ≡ b ++ (es ++ w)
       → Ended (bytesFrom x n i) → spelled (bytesFrom x n i) ≡ map (selectorOf (runsOf t)) es
-      → walkSelectors t x visit n g s (placesOf b) st rest ≡ tourThen (seen t visit) (stopsIn g s b es) st rest
-  unfolding walkSelectors listed stopsIn tourThen spelled
+      → walkSelectors t x visit n g s (placesOf b) st rest ≡ tourThen (seen t visit) (spotsIn g s b es) st rest
+  unfolding walkSelectors listed spotsIn tourThen spelled
   walk-segment zero s i b [] w st at is ended spells = refl
   walk-segment zero s i b (e ∷ es) w st at is ended spells = never (cc)
   walk-segment (suc n) s i b [] w st at is ended spells =

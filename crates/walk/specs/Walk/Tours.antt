@@ -1,18 +1,17 @@
 -- A visitor run over stops: a walk that is never lost.
---     after, after-ext         one visit, and what comes after it
---     tourThen, tour           a visitor at one stop after the other, and then something, or the end
---     tourThen-append          stops end to end
---     tourThen-ext             what comes after may be told otherwise
---     tour-same                and so may the visitor, stop by stop
---     tour-kept                stops that only pass are left out
---     tour-first               a visitor that only looks for a stop: the first that passes its test
+--     after, after-ext               one visit, and what comes after it
+--     tourThen, tour                 a visitor at one stop after the other, and then something, or the end
+--     tourThen-append                stops end to end
+--     tourThen-ext                   what comes after may be told otherwise
+--     tour-same                      and so may the visitor, stop by stop
+--     tour-kept                      stops that only pass are left out
+--     firstOf, tour-first            a visitor that only looks for a stop: the first that passes its test
 --     Each, each-append, each-at     a property of each member of a list and what follows it
 --     each-keep, each-on, each-both, each-all, all-each     the same of what is kept, of a later part, of two properties, and of all members
 -- Assumes nothing.
-use mathlib.Core.Path.{_≡_, refl, ap, subst}
-use Prim.Native.Nat.{ℕ}
+use mathlib.Core.Path.{_≡_, refl, subst}
 use mathlib.Core.Bool.{Bool, true, false, cond}
-use mathlib.Core.List.{List, [], _∷_, _++_, append-nil, head-eq-of-cons-eq, tail-eq-of-cons-eq}
+use mathlib.Core.List.{List, [], _∷_, _++_, head-eq-of-cons-eq, tail-eq-of-cons-eq}
 use Rattle.theory.specs.Tests.{never, split}
 use Rattle.theory.specs.Lists.{here, all-nil, all-cons, all-tail}
 use Rattle.theory.specs.Rising.{All, keep}
