@@ -6,6 +6,8 @@
 --     Selecting, selectors-end, selectors-pass, selectors-lost, selectors-stay, selectors-go    the loop over selectors
 -- Assumes nothing.
 pub mod Load
+pub mod Moves
+pub mod Turns
 pub mod Seek
 use mathlib.Core.Path.{_≡_, refl, sym, ap, ap₂, _∙_}
 use Prim.Native.Nat.{ℕ, zero, suc, _+_, _-_, _*_, _≤_, _<_}
@@ -17,7 +19,7 @@ use lib.ListN.{length, getD, set, length-map}
 use lib.Dec.{eqb, ltb}
 use borrow.Author.Tests.{eq-eqb, ne-eqb, lt-ltb, le-ltb}
 use Rattle.tray.specs.declared.Place.{Place}
-use Rattle.tray.specs.Frame.{runCount, countOf, Starts}
+use Rattle.tray.specs.Frame.{runCount, countOf}
 use Rattle.index.specs.Layout.{sizeOf, segmentCount}
 use Rattle.index.specs.Scan.{runIn, raise}
 use Rattle.walk.specs.declared.cursor.Cursor.{Cursor}
@@ -61,8 +63,7 @@ raise-numbers ps {r} {i} e =
     ∙ ap (λ (k : ℕ). set (numbers ps) k (getD (numbers ps) k 0 + 1)) e
 
 -- tray and index as the code has them
-pub record Walking (t x : List ℕ) (h d n : ℕ) (counts starts : List ℕ) : Type 0 where
-  pub at : Starts t starts
+pub record Walking (t x : List ℕ) (h d n : ℕ) (counts : List ℕ) : Type 0 where
   pub runs : h ≡ runCount t
   pub few : h ≤ 63
   pub room : length counts ≡ 63

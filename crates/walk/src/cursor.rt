@@ -5,15 +5,41 @@ use number::wide_size;
 use tray::Place;
 use tray::RunNo;
 ghost use mathlib.Core.Path.{_≡_};
-ghost use Prim.Native.Nat.{_+_, _*_, _≤_};
-ghost use lib.ListN.{length};
-ghost use Rattle.walk.specs.Code.{numbers};
+ghost use Prim.Native.Nat.{_+_, _*_, _≤_, _<_};
+ghost use lib.ListN.{length, getD};
+ghost use Rattle.walk.specs.Code.{placed, numbers, spotOf};
+ghost use Rattle.walk.specs.Code.Moves.{pastGap, pastRecord};
 ghost use Rattle.walk.specs.Code.Load.{loadedFrom};
 
 pub struct Cursor {
     pub segment: SegmentNo,
     pub selector: u8,
     pub places: [Place; 63],
+}
+
+// The moves of a cursor over a selector: each hands back the moved cursor.
+impl Cursor {
+    // Past a placeholder.
+    pub fn past_gap(mut self) -> Cursor
+        requires { ⌜ self .selector < 255 ⌝ }
+        ensures { λ c. ⌜ spotOf c ≡ pastGap (spotOf self) ⌝ }
+    {
+        self.selector += 1;
+        self
+    }
+
+    // Past a record of a run, which raises the run's place.
+    pub fn past_record(mut self, r: RunNo) -> Cursor
+        requires { ⌜ (self .selector < 255) × (r .0 < 63) × (getD (self .places) (r .0) (placed 0) .0 < 65535) ⌝ }
+        ensures { λ c. ⌜ spotOf c ≡ pastRecord (spotOf self) (r .0) ⌝ }
+    {
+        let n = r.0;
+        let i = wide_size(n);
+        let p = self.places[i];
+        self.places[i] = Place(p.0 + 1);
+        self.selector += 1;
+        self
+    }
 }
 
 // Where a walk ends: at a record, at the end, or lost at a selector of a segment.

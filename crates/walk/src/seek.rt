@@ -33,7 +33,7 @@ fn stays(t: &[u8], starts: &[usize], v: u8, p: Place, key: u64) -> bool
 }
 
 // The walk stays at a record.
-fn found(g: u32, s: u8, places: [Place; 63], v: u8) -> Sought
+pub fn found(g: u32, s: u8, places: [Place; 63], v: u8) -> Sought
     requires { ⌜ v < 63 ⌝ }
     ensures { λ r. ⌜ soughtOf r ≡ sightOf g s places v ⌝ }
 {
@@ -58,7 +58,7 @@ fn no_cursor() -> Cursor {
 }
 
 // The walk is lost at a selector of a segment.
-fn lost_at(g: u32, s: u8) -> Sought
+pub fn lost_at(g: u32, s: u8) -> Sought
     ensures { λ r. ⌜ soughtOf r ≡ lostAt g s ⌝ }
 {
     Sought {
@@ -68,7 +68,7 @@ fn lost_at(g: u32, s: u8) -> Sought
 }
 
 // The walk comes to the end.
-fn at_end(n: u32) -> Sought
+pub fn at_end(n: u32) -> Sought
     ensures { λ r. ⌜ soughtOf r ≡ ended 0 ⌝ }
 {
     Sought {
@@ -93,7 +93,8 @@ pub fn seek_from(
     from: SegmentNo,
     key: u64,
 ) -> Sought
-    requires { ⌜ Walking (now t) (now x) h d n (now counts) (now starts) ⌝ }
+    requires { ⌜ Walking (now t) (now x) h d n (now counts) ⌝ }
+    requires { ⌜ Starts (now t) (now starts) ⌝ }
     ensures { λ r. ⌜ soughtOf r ≡ walkSegments (now (t .entry)) (now (x .entry)) (seekVisit (now (t .entry)) key) (n - from .0) (from .0) 0 ⌝ }
 {
     let mut g = from.0;

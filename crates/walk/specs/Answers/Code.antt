@@ -32,10 +32,9 @@ use Rattle.walk.specs.Code.{Walking, numbers, spotOf, soughtAs, soughtOf
 use Rattle.walk.specs.Answers.{cursorOf, noCursor, refusedSeek, seekTold, seekFramed, seekAnswer, toldAs, toldSeek}
 
 -- tray and index as the walk asks for them
-pub walking : {t x : List ℕ} {f : Frame} {d n : ℕ} → Opened t f → Laid t x d n → Walking t x (f .runs) d n (f .counts) (f .starts)
+pub walking : {t x : List ℕ} {f : Frame} {d n : ℕ} → Opened t f → Laid t x d n → Walking t x (f .runs) d n (f .counts)
 walking {t} {x} {f} {d} {n} o l =
     record {
-      at = o .at;
       runs = o .runs;
       few = o .few;
       room = o .room;
@@ -61,7 +60,7 @@ told-as x n SightEnd c e =
     ap (λ (k : ℕ). record { answer = End; cursor = record { segment = record { 0 = k }; selector = 0; places = replicate 63 (record { 0 = 0 }) } }) e
 told-as x n (SightLost g s) c e = refl
 
-pub told-is : (t x : List ℕ) (key : ℕ) {h d n g : ℕ} {counts starts : List ℕ} (s : Sought) {r : Seeks} → Walking t x h d n counts starts → g ≡ start h x key
+pub told-is : (t x : List ℕ) (key : ℕ) {h d n g : ℕ} {counts : List ℕ} (s : Sought) {r : Seeks} → Walking t x h d n counts → g ≡ start h x key
     → soughtOf s ≡ walkSegments t x (seekVisit t key) (n - g) g 0 → r ≡ toldSeek n s → r ≡ seekFramed t x key
 unfolding seekFramed seek soughtOf
 told-is t x key {h} {d} {n} {g} s w e walked told =

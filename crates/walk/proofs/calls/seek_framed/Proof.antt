@@ -24,7 +24,7 @@ slice-aggregate-seek-from-2 c = sym (c .before .before .before .before .before .
 
 -- src/calls.rt:83:15
 seek-from-requires : tie.Need-seek-from-requires
-seek-from-requires c κs = walking (c .before .before .before .before .before .before .before .pre .0) (c .before .before .before .before .before .before .before .pre .1)
+seek-from-requires c κs = (walking (c .before .before .before .before .before .before .before .pre .0) (c .before .before .before .before .before .before .before .pre .1), c .before .before .before .before .before .before .before .pre .0 .at)
 
 -- src/calls.rt:83:5
 told-seek-requires : tie.Need-told-seek-requires
