@@ -1,0 +1,3 @@
+-- Going on from a cursor, for every tray, index, cursor, prefix and room: what the code of next, page and sheet needs of the definitions in
+-- `walk`, and their answers.
+pub mod Page

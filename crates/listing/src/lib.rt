@@ -1,0 +1,2 @@
+// Going on from a cursor (document 01, "Reading through an index"): next, page and sheet.
+pub mod page;
