@@ -4,7 +4,7 @@ use Prim.Native.Nat.{ℕ}
 use mathlib.Core.Bool.{cond}
 use mathlib.Core.List.{List, map}
 use lib.ListN.{replicate}
-use Rattle.number.specs.Big.{be}
+use Rattle.number.specs.Big.{be, bytesOf}
 use Rattle.refusal.specs.declared.Refusal.{Refusal}
 use Rattle.refusal.specs.declared.Refusal.the-variants.{TrayFrame, IndexFrame, Lost}
 use Rattle.tray.specs.declared.Place.{Place}
@@ -16,8 +16,11 @@ use Rattle.walk.specs.declared.cursor.Sight.the-variants.{Found as Sight
 use Rattle.walk.specs.declared.cursor.Sought.{Sought}
 use Rattle.walk.specs.declared.calls.Seeks.{Seeks}
 use Rattle.walk.specs.declared.calls.SeekAnswer.the-variants.{Found, End, Refused}
+use Rattle.walk.specs.declared.get.Gets.{Gets}
+use Rattle.walk.specs.declared.get.GetAnswer.{GetAnswer}
+use Rattle.walk.specs.declared.get.GetAnswer.the-variants.{Found as GetFound, Absent, Refused as GetRefused}
 use Rattle.walk.specs.Walk.{Spot, Walked, stayed, ended, lost}
-use Rattle.walk.specs.Reads.{seek, endSpot}
+use Rattle.walk.specs.Reads.{seek, endSpot, Got, value, absent, get-lost, get}
 
 -- a cursor as a value of the library
 unfoldable pub cursorOf : Spot → Cursor
@@ -41,11 +44,13 @@ seekTold x (lost g s st) = refusedSeek (Lost g s)
 unfoldable pub seekFramed : List ℕ → List ℕ → ℕ → Seeks
 seekFramed t x key = seekTold x (seek t x key)
 
+-- the quick calls ask 1, then 4, and then what they ask where both frames fit
+unfoldable pub inFrames : {A : Type 0} → (Refusal → A) → List ℕ → List ℕ → A → A
+inFrames refused t x fits = cond (framed t) (cond (indexFramed (runCount t) x) fits (refused IndexFrame)) (refused TrayFrame)
+
 -- seek: 1, then 4, then the walk
 unfoldable pub seekAnswer : List ℕ → List ℕ → List ℕ → Seeks
-seekAnswer t x key =
-    let walked = seekFramed t x (be 8 key 0) in
-    cond (framed t) (cond (indexFramed (runCount t) x) walked (refusedSeek IndexFrame)) (refusedSeek TrayFrame)
+seekAnswer t x key = inFrames refusedSeek t x (seekFramed t x (be 8 key 0))
 
 -- the same of what the code's walk hands over, for an index of n segments
 abbrev pub toldAs : ℕ → Sight → Cursor → Seeks
@@ -55,3 +60,24 @@ toldAs n (SightLost g s) c = refusedSeek (Lost g s)
 
 abbrev pub toldSeek : ℕ → Sought → Seeks
 toldSeek n s = toldAs n (s .sight) (s .cursor)
+
+-- an answer of get without a value
+abbrev pub valueless : GetAnswer → Gets
+valueless a = record { answer = a; value = replicate 16 0 }
+
+abbrev pub refusedGet : Refusal → Gets
+refusedGet r = valueless (GetRefused r)
+
+-- what get came to, as get's answer
+unfoldable pub gotTold : Got → Gets
+gotTold (value v) = record { answer = GetFound; value = bytesOf 16 v }
+gotTold absent = valueless Absent
+gotTold (get-lost g s) = refusedGet (Lost g s)
+
+-- get where both frames fit
+unfoldable pub getFramed : List ℕ → List ℕ → ℕ → Gets
+getFramed t x key = gotTold (get t x key)
+
+-- get: 1, then 4, then the walk
+unfoldable pub getAnswer : List ℕ → List ℕ → List ℕ → Gets
+getAnswer t x key = inFrames refusedGet t x (getFramed t x (be 8 key 0))

@@ -9,6 +9,8 @@ pub mod Load
 pub mod Moves
 pub mod Turns
 pub mod Seek
+pub mod Stayed
+pub mod Get
 use mathlib.Core.Path.{_≡_, refl, sym, ap, ap₂, _∙_}
 use Prim.Native.Nat.{ℕ, zero, suc, _+_, _-_, _*_, _≤_, _<_}
 use native.Mathlib.Omega.{arith}
@@ -84,12 +86,12 @@ unfoldable pub soughtOf : Sought → Walked ℕ Found
 soughtOf r = soughtAs (r .sight) (spotOf (r .cursor))
 
 -- what comes after a visit
-after-visit : {S R : Type 0} → Visit S R → (S → Walked S R) → Walked S R
+pub after-visit : {S R : Type 0} → Visit S R → (S → Walked S R) → Walked S R
 after-visit (stay r) on = stayed r
 after-visit (go st) on = on st
 
 -- one selector v of a walk with any visitor, and those after it
-abbrev turnOf : {S R : Type 0} (t x : List ℕ) (visit : ℕ → Spot → S → Visit S R) (k g s : ℕ) (places : List ℕ) (st : S) (rest : S → Walked S R) → ℕ → Walked S R
+abbrev pub turnOf : {S R : Type 0} (t x : List ℕ) (visit : ℕ → Spot → S → Visit S R) (k g s : ℕ) (places : List ℕ) (st : S) (rest : S → Walked S R) → ℕ → Walked S R
 turnOf {S} t x visit k g s places st rest v =
     cond (eqb v 63) (walkSelectors t x visit k g (s + 1) places st rest)
     (cond (named t places v)
@@ -97,7 +99,7 @@ turnOf {S} t x visit k g s places st rest v =
     (λ (st′ : S). walkSelectors t x visit k g (s + 1) (raise places (runIn v)) st′ rest))
     (lost g s st))
 
-one-selector : {S R : Type 0} (t x : List ℕ) (visit : ℕ → Spot → S → Visit S R) (k g s : ℕ) (places : List ℕ) (st : S) (rest : S → Walked S R)
+pub one-selector : {S R : Type 0} (t x : List ℕ) (visit : ℕ → Spot → S → Visit S R) (k g s : ℕ) (places : List ℕ) (st : S) (rest : S → Walked S R)
     → walkSelectors t x visit (suc k) g s places st rest ≡ turnOf t x visit k g s places st rest (selectorAt (runCount t) x g s)
 unfolding walkSelectors after-visit
 one-selector {S} {R} t x visit k g s places st rest =

@@ -2,4 +2,5 @@
 pub mod begin;
 pub mod calls;
 pub mod cursor;
+pub mod get;
 pub mod seek;

@@ -4,17 +4,19 @@
 --     Last, last-none, last-more         the key before a place
 --     key-fine, key-bad                  a key, told by the last one
 --     key-is, run-kind, run-key, run-next, last-next    a turn of the loop over a run
+--     value-is                           a value, written by its halves
 -- Assumes nothing.
-use mathlib.Core.Path.{_≡_, refl, sym, ap, _∙_}
+use mathlib.Core.Path.{_≡_, refl, sym, ap, ap₂, _∙_}
 use Prim.Native.Nat.{ℕ, zero, suc, _+_, _-_, _*_, _≤_, _<_}
 use native.Mathlib.Omega.{arith}
 use mathlib.Core.Bool.{Bool, true, false, not, _||_}
-use mathlib.Core.List.{List}
-use lib.ListN.{getD}
+use mathlib.Core.List.{List, _++_, append-nil}
+use lib.ListN.{length, getD, drop, drop-of-length-le, length-append}
 use lib.Dec.{ltb, eqb}
 use borrow.Author.Tests.{le-leb, lt-leb, ltb-true, ltb-false, le-ltb, lt-ltb, eqb-true, eqb-false, eq-eqb, ne-eqb, not-true, not-false}
-use Rattle.number.specs.Big.{be}
-use Rattle.number.specs.Big.Laws.{be-add}
+use Rattle.number.specs.Big.{be, bytesOf, put}
+use Rattle.number.specs.Big.Laws.{be-add, bytesOf-add, length-bytesOf}
+use Rattle.number.specs.Big.Writes.{put-put}
 use Rattle.theory.specs.Tests.{cases, clash, or-left, or-right}
 use Rattle.tray.specs.declared.run.RunAnswer.the-variants.{WrongKind, WrongKey}
 use Rattle.tray.specs.Run.{recordFrom, recordAt, kindWrong, keyWrong, place, judgeFrom}
@@ -23,6 +25,29 @@ use Rattle.tray.specs.Run.Laws.{judge-kind, judge-key, judge-next}
 -- sixteen bytes as two numbers of eight
 halves : (s : List ℕ) (p : ℕ) → be 16 s p ≡ be 8 s p * 18446744073709551616 + be 8 s (p + 8)
 halves s p = be-add 8 8 s p
+
+-- all of some bytes written over
+put-all : (out ys : List ℕ) → length out ≤ length ys → put out 0 ys ≡ ys
+unfolding put
+put-all out ys l = ap (λ (zs : List ℕ). ys ++ zs) (drop-of-length-le out {i = 0 + length ys} (omega (arith, l))) ∙ append-nil ys
+
+-- a value is written by its halves
+pub value-is : (s : List ℕ) (p : ℕ) (out : List ℕ) {at high low : ℕ} {first second : List ℕ} → length out ≡ 16 → at ≡ 25 * p + 9 → high ≡ be 8 s at → low ≡ be 8 s (at + 8)
+    → low < 18446744073709551616 → first ≡ put out 0 (bytesOf 8 high) → second ≡ put first 8 (bytesOf 8 low) → second ≡ bytesOf 16 (recordAt s p .value)
+unfolding recordFrom
+value-is s p out {at} {high} {low} {first} {second} l e h k fits f g =
+    let both : bytesOf 16 (high * 18446744073709551616 + low) ≡ bytesOf 8 high ++ bytesOf 8 low = bytesOf-add 8 8 high low fits in
+    let whole : high * 18446744073709551616 + low ≡ be 16 s at = ap₂ (λ (a b : ℕ). a * 18446744073709551616 + b) h k ∙ sym (halves s at) in
+    let a = length-bytesOf 8 high in
+    let b = length-bytesOf 8 low in
+    let long : length (bytesOf 8 high ++ bytesOf 8 low) ≡ length (bytesOf 8 high) + length (bytesOf 8 low) = length-append (bytesOf 8 high) (bytesOf 8 low) in
+    let eight : 8 ≡ 0 + length (bytesOf 8 high) = omega arith in
+    g
+    ∙ ap₂ (λ (zs : List ℕ) (n : ℕ). put zs n (bytesOf 8 low)) f eight
+    ∙ put-put out 0 (bytesOf 8 high) (bytesOf 8 low) (omega arith)
+    ∙ put-all out (bytesOf 8 high ++ bytesOf 8 low) (omega arith)
+    ∙ sym both
+    ∙ ap (bytesOf 16) (whole ∙ ap (be 16 s) e)
 
 module _ (s : List ℕ) (p : ℕ) where
   pub no-value-high : (be 8 s p ≡ 0 → ⊥) → false ≡ eqb (be 16 s p) 0

@@ -1,7 +1,7 @@
 -- What the code of the quick calls needs of the definitions.
 --     walking                          tray and index as the walk asks for them
 --     told-is                          what the code's walk hands over is seek's answer
---     seek-fits, seek-index, seek-tray the frames decide
+--     frames-tray, -index, -fit        the frames decide
 -- Assumes nothing.
 use mathlib.Core.Path.{_≡_, refl, sym, ap, ap₂, _∙_}
 use Prim.Native.Nat.{ℕ, _-_}
@@ -10,6 +10,7 @@ use mathlib.Core.Bool.{Bool, true, false, cond}
 use mathlib.Core.List.{List, [], _∷_, map}
 use lib.ListN.{replicate}
 use Rattle.number.specs.Big.{be}
+use Rattle.refusal.specs.declared.Refusal.{Refusal}
 use Rattle.refusal.specs.declared.Refusal.the-variants.{TrayFrame, IndexFrame, Lost}
 use Rattle.theory.specs.Tests.{never}
 use Rattle.tray.specs.declared.Place.{Place}
@@ -29,7 +30,7 @@ use Rattle.walk.specs.Start.Code.{Probing}
 use Rattle.walk.specs.Walk.{Spot, Walked, stayed, ended, lost, walkSegments}
 use Rattle.walk.specs.Reads.{seek, seekVisit, endSpot}
 use Rattle.walk.specs.Code.{Walking, numbers, spotOf, soughtAs, soughtOf}
-use Rattle.walk.specs.Answers.{cursorOf, noCursor, refusedSeek, seekTold, seekFramed, seekAnswer, toldAs, toldSeek}
+use Rattle.walk.specs.Answers.{cursorOf, noCursor, refusedSeek, seekTold, seekFramed, inFrames, toldAs, toldSeek}
 
 -- tray and index as the walk asks for them
 pub walking : {t x : List ℕ} {f : Frame} {d n : ℕ} → Opened t f → Laid t x d n → Walking t x (f .runs) d n (f .counts)
@@ -71,27 +72,27 @@ told-is t x key {h} {d} {n} {g} s w e walked told =
     ∙ ap₂ (λ (m k : ℕ). walkSegments t x (seekVisit t key) (m - k) k 0) (w .index .count) (e ∙ ap (λ (k : ℕ). start k x key) (w .runs)))
 
 -- the frames decide
-module _ (x key : List ℕ) {t : List ℕ} {f : Frame} (g : Framing t f) where
-  pub seek-tray : {r : Seeks} → f .fits ≡ false → r ≡ refusedSeek TrayFrame → r ≡ seekAnswer t x key
-  unfolding seekAnswer
-  seek-tray n e = e ∙ sym (rw (sym (g .fits) ∙ n))
+module _ {A : Type 0} (refused : Refusal → A) (x : List ℕ) {t : List ℕ} {f : Frame} (g : Framing t f) where
+  pub frames-tray : (fits : A) {r : A} → f .fits ≡ false → r ≡ refused TrayFrame → r ≡ inFrames refused t x fits
+  unfolding inFrames
+  frames-tray fits n e = e ∙ sym (rw (sym (g .fits) ∙ n))
 
-  module _ (y : f .fits ≡ true) where
+  module _ (y : f .fits ≡ true) (fits : A) where
     runs-is : f .runs ≡ runCount t
     runs-is = g .runs (sym (g .fits) ∙ y)
 
-    pub seek-index : {r : Seeks} → Wrong ≡ indexFrame (f .runs) x → r ≡ refusedSeek IndexFrame → r ≡ seekAnswer t x key
-    unfolding seekAnswer indexFrame
-    seek-index {r} w e = go (indexFramed (f .runs) x) refl w
+    pub frames-index : {r : A} → Wrong ≡ indexFrame (f .runs) x → r ≡ refused IndexFrame → r ≡ inFrames refused t x fits
+    unfolding inFrames indexFrame
+    frames-index {r} w e = go (indexFramed (f .runs) x) refl w
       where
-        go : (b : Bool) → indexFramed (f .runs) x ≡ b → Wrong ≡ cond b (Fits (sizeOf x) (segmentCount x)) Wrong → r ≡ seekAnswer t x key
+        go : (b : Bool) → indexFramed (f .runs) x ≡ b → Wrong ≡ cond b (Fits (sizeOf x) (segmentCount x)) Wrong → r ≡ inFrames refused t x fits
         go true q z = never (cc)
         go false q z = e ∙ sym (rw (sym (g .fits) ∙ y, ← runs-is, q))
 
-    pub seek-fits : {d n k : ℕ} {r : Seeks} → Fits d n ≡ indexFrame (f .runs) x → k ≡ be 8 key 0 → r ≡ seekFramed t x k → r ≡ seekAnswer t x key
-    unfolding seekAnswer indexFrame
-    seek-fits {d} {n} {k} {r} w e j = go (indexFramed (f .runs) x) refl w
+    pub frames-fit : {d n : ℕ} {r : A} → Fits d n ≡ indexFrame (f .runs) x → r ≡ fits → r ≡ inFrames refused t x fits
+    unfolding inFrames indexFrame
+    frames-fit {d} {n} {r} w j = go (indexFramed (f .runs) x) refl w
       where
-        go : (b : Bool) → indexFramed (f .runs) x ≡ b → Fits d n ≡ cond b (Fits (sizeOf x) (segmentCount x)) Wrong → r ≡ seekAnswer t x key
-        go true q z = j ∙ ap (seekFramed t x) e ∙ sym (rw (sym (g .fits) ∙ y, ← runs-is, q))
+        go : (b : Bool) → indexFramed (f .runs) x ≡ b → Fits d n ≡ cond b (Fits (sizeOf x) (segmentCount x)) Wrong → r ≡ inFrames refused t x fits
+        go true q z = j ∙ sym (rw (sym (g .fits) ∙ y, ← runs-is, q))
         go false q z = never (cc)

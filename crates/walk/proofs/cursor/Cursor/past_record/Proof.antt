@@ -1,41 +1,31 @@
+-- `walk::cursor::Cursor::past_record` meets its contract. Assumes nothing.
 use Rattle.walk.specs.Code.Moves.{moved-record, same-place}
 use native.Mathlib.Omega.{arith}
 use borrow.Author.Needs.{needs}
 use Rattle.walk.proofs.cursor.Cursor.past_record.Statement.{statement}
 use Rattle.walk.proofs.cursor.Cursor.past_record.Tie as tie
-use Rattle.walk.proofs.cursor.Cursor.past_record.Reads as reads
-use Rattle.walk.proofs.cursor.Cursor.past_record.Lts as lts
-use Rattle.number.proofs.wide_size.Reads as wide-size-reads
 
--- src/cursor.rt:37:13
 wide-size-requires : tie.Need-wide-size-requires
 wide-size-requires c κs = search needs
 
--- src/cursor.rt:38:17
 mul-p : tie.Need-mul-p
 mul-p c = search needs
 
--- src/cursor.rt:38:17
 element-copy-out-p : tie.Need-element-copy-out-p
 element-copy-out-p c = search needs
 
--- src/cursor.rt:39:32
 add-t11 : tie.Need-add-t11
 add-t11 c = omega (arith, same-place (c .before .before .before .args .t1 .places) (c .before .before .wide-size .ensures) (c .before .before .before .pre .2))
 
--- src/cursor.rt:39:9
 mul-t7 : tie.Need-mul-t7
 mul-t7 c = search needs
 
--- src/cursor.rt:39:9
 element-set-from-self : tie.Need-element-set-from-self
 element-set-from-self c = search needs
 
--- src/cursor.rt:40:9
 add-self : tie.Need-add-self
 add-self c = search needs
 
--- src/cursor.rt:32:5
 returns : tie.Need-returns
 returns c = moved-record _ (c .before .before .wide-size .ensures)
 

@@ -1,0 +1,56 @@
+-- `tray::run::value_at` meets its contract: a value is written by its halves. Assumes nothing.
+use mathlib.Core.Path.{refl}
+use Rattle.tray.specs.Run.Code.{value-is}
+use native.Mathlib.Omega.{arith}
+use borrow.Author.Needs.{needs}
+use Rattle.tray.proofs.run.value_at.Statement.{statement}
+use Rattle.tray.proofs.run.value_at.Tie as tie
+
+size16-requires : tie.Need-size16-requires
+size16-requires c κs = search needs
+
+mul-at : tie.Need-mul-at
+mul-at c = search needs
+
+add-at : tie.Need-add-at
+add-at c = search needs
+
+slice-aggregate-put8 : tie.Need-slice-aggregate-put8
+slice-aggregate-put8 c = search needs
+
+big8-requires : tie.Need-big8-requires
+big8-requires c κs = search needs
+
+put8-requires : tie.Need-put8-requires
+put8-requires c κs = search needs
+
+slice-aggregate-put8-2 : tie.Need-slice-aggregate-put8-2
+slice-aggregate-put8-2 c = search needs
+
+add-big8 : tie.Need-add-big8
+add-big8 c = search needs
+
+big8-requires-2 : tie.Need-big8-requires-2
+big8-requires-2 c κs = search needs
+
+put8-requires-2 : tie.Need-put8-requires-2
+put8-requires-2 c κs = search needs
+
+returns : tie.Need-returns
+returns c = value-is _ _ _ refl (omega (arith, c .before .before .before .before .before .before .before .before .size16 .ensures)) (c .before .before .before .before .before .before .big8 .ensures) (c .before .before .big82 .ensures) (omega arith) (c .before .before .before .before .before .put8 .ensures) (c .before .put82 .ensures)
+
+pub value-at-spec : {M : Type 1} → statement M
+value-at-spec =
+    tie.close
+    (tie.spec
+    size16-requires
+    mul-at
+    add-at
+    slice-aggregate-put8
+    big8-requires
+    put8-requires
+    slice-aggregate-put8-2
+    add-big8
+    big8-requires-2
+    put8-requires-2
+    returns)
