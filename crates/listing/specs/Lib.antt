@@ -1,3 +1,6 @@
 -- Going on from a cursor, for every tray, index, cursor, prefix and room: what the code of next, page and sheet needs of the definitions in
 -- `walk`, and their answers.
-pub mod Page
+-- whether a cursor belongs
+pub mod Standing
+-- next
+pub mod Next

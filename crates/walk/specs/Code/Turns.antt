@@ -3,7 +3,8 @@
 --     selector-is, within                    the selector that is read, inside the index
 --     named-run, named-yes, named-past       the loss rule
 --     Here                                   the walk from here answers for the whole
---     here-from, here-end, here-enter        from a cursor, after the last segment, into the next one
+--     here-at, here-from, here-whole         from a spot or a cursor on
+--     here-end, here-enter                   after the last segment, into the next one
 -- Assumes nothing.
 use mathlib.Core.Path.{_≡_, refl, sym, ap, ap₂, _∙_}
 use Prim.Native.Nat.{ℕ, suc, _+_, _-_, _*_, _%_, _≤_, _<_}
@@ -86,11 +87,11 @@ module _ {t x : List ℕ} {h d n : ℕ} {counts : List ℕ} (w : Walking t x h d
           on = segments-enter (record { same = refl }) (w .index .size) (loads g places e p) l;
         }
 
-    -- a walk from a cursor on
-    pub here-from : (c : Cursor) (st : S) → c .segment .0 < n → c .selector ≤ d → length (c .places) ≡ 63
-        → Here t x visit d n (walkFrom t x visit (spotOf c) st) (c .segment .0) (c .selector) (c .places) st
-    unfolding walkFrom spotOf
-    here-from c st l k r =
+    -- a walk from a spot on
+    pub here-at : (g s : ℕ) (places : List Place) (st : S) → g < n → s ≤ d → length places ≡ 63
+        → Here t x visit d n (walkFrom t x visit (record { segment = g; selector = s; places = numbers places }) st) g s places st
+    unfolding walkFrom
+    here-at g s places st l k r =
         let size : d ≡ sizeOf x = w .index .size in
         let count : n ≡ segmentCount x = w .index .count in
         record {
@@ -100,11 +101,26 @@ module _ {t x : List ℕ} {h d n : ℕ} {counts : List ℕ} (w : Walking t x h d
                 inside = l;
                 high = k;
                 same =
-                    ap₂ (λ (a b : ℕ). walkSelectors t x visit (a - c .selector) (c .segment .0) (c .selector) (numbers (c .places)) st
-                    (walkSegments t x visit (b - (c .segment .0 + 1)) (c .segment .0 + 1))) size count
-                    ∙ sym (rw (lt-ltb (c .segment .0) (segmentCount x) (omega arith)));
+                    ap₂ (λ (a b : ℕ). walkSelectors t x visit (a - s) g s (numbers places) st (walkSegments t x visit (b - (g + 1)) (g + 1))) size count
+                    ∙ sym (rw (lt-ltb g (segmentCount x) (omega arith)));
               };
         }
+
+    -- a walk from a cursor on
+    pub here-from : (c : Cursor) (st : S) → c .segment .0 < n → c .selector ≤ d → length (c .places) ≡ 63
+        → Here t x visit d n (walkFrom t x visit (spotOf c) st) (c .segment .0) (c .selector) (c .places) st
+    unfolding spotOf
+    here-from c st l k r = here-at (c .segment .0) (c .selector) (c .places) st l k r
+
+    -- what the walk from here answers is the whole's answer
+    pub here-whole : {whole : Walked S R} {g s : ℕ} {places : List Place} {st : S} → Here t x visit d n whole g s places st
+        → walkFrom t x visit (record { segment = g; selector = s; places = numbers places }) st ≡ whole
+    here-whole {g = g} {s} {places} {st} i =
+        sym (here-at g s places st (i .on .inside) (i .on .high) (i .room) .on .same) ∙ i .on .same
+
+    pub here-into : {whole whole′ : Walked S R} {g s : ℕ} {places : List Place} {st : S} → Here t x visit d n whole g s places st → whole ≡ whole′
+        → Here t x visit d n whole′ g s places st
+    here-into i e = record { room = i .room; on = record { inside = i .on .inside; high = i .on .high; same = i .on .same ∙ e } }
 
     module _ {whole : Walked S R} {g s : ℕ} {places : List Place} {st : S} (i : Here t x visit d n whole g s places st) (l : d ≤ s) where
       -- after the last segment comes the end,

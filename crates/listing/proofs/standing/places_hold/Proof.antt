@@ -1,0 +1,95 @@
+-- `listing::standing::places_hold` meets its contract. Assumes nothing.
+use mathlib.Core.Path.{_≡_, refl, sym, ap, _∙_}
+use Prim.Native.Nat.{_≤_, _-_}
+use Rattle.index.specs.Scan.Code.{sameTo, same-end, same-next, same-stop}
+use Rattle.walk.specs.Code.{numbers, getD-numbers}
+use Rattle.listing.specs.Standing.{wantedAt, wanted-run}
+use native.Mathlib.Omega.{arith}
+use borrow.Author.Needs.{needs}
+use Rattle.listing.proofs.standing.places_hold.Statement.{statement}
+use Rattle.listing.proofs.standing.places_hold.Tie as tie
+
+abbrev Inv-loop : tie.InvT-loop
+Inv-loop x at h seen places r₀ r = (r ≤ h) × (sameTo (numbers places) (wantedAt h x at seen) r ≡ sameTo (numbers places) (wantedAt h x at seen) h)
+
+abbrev μ-loop : tie.MeasureT-loop
+μ-loop x at h seen places r₀ r = r
+
+wide-size-requires : tie.Need-wide-size-requires Inv-loop μ-loop
+wide-size-requires c κs = search needs
+
+loop-holds : tie.Need-loop-holds Inv-loop μ-loop
+loop-holds c = (omega arith, ap (sameTo _ _) (c .wide-size .ensures))
+
+sub-r : tie.Need-sub-r Inv-loop μ-loop
+sub-r c = omega arith
+
+mul-place-size : tie.Need-mul-place-size Inv-loop μ-loop
+mul-place-size c = search needs
+
+array-copy-out-place-size : tie.Need-array-copy-out-place-size Inv-loop μ-loop
+array-copy-out-place-size c = omega arith
+
+place-size-requires : tie.Need-place-size-requires Inv-loop μ-loop
+place-size-requires c κs = search needs
+
+add-big2 : tie.Need-add-big2 Inv-loop μ-loop
+add-big2 c = omega arith
+
+mul-big2 : tie.Need-mul-big2 Inv-loop μ-loop
+mul-big2 c = omega arith
+
+add-big2-2 : tie.Need-add-big2-2 Inv-loop μ-loop
+add-big2-2 c = omega arith
+
+big2-requires : tie.Need-big2-requires Inv-loop μ-loop
+big2-requires c κs = omega arith
+
+size16-requires : tie.Need-size16-requires Inv-loop μ-loop
+size16-requires c κs = search needs
+
+shared-slice-read-wide-size : tie.Need-shared-slice-read-wide-size Inv-loop μ-loop
+shared-slice-read-wide-size c = omega arith
+
+wide-size-requires-2 : tie.Need-wide-size-requires-2 Inv-loop μ-loop
+wide-size-requires-2 c κs = search needs
+
+add-if1 : tie.Need-add-if1 Inv-loop μ-loop
+add-if1 c = omega (arith, c .before .before .size16 .ensures, c .wide-size2 .ensures, c .before .shared-slice-known3 .given (c .before .before .before .before .before .before .before .loop .r - 1))
+
+loop-less : tie.Need-loop-less Inv-loop μ-loop
+loop-less c = omega arith
+
+loop-again : tie.Need-loop-again Inv-loop μ-loop
+loop-again c = (omega arith, sym (same-next _ _ (c .before .before .before .before .before .before .before .loop-test .taken) refl (getD-numbers _ _ ∙ sym (c .before .before .before .before .before .place-size .ensures .0) ∙ c .if1 .taken ∙ wanted-run _ _ _ _ (c .before .before .before .before .before .before .before .before .before .before .before .before .pre .1) (omega arith) (c .before .before .before .size16 .ensures ∙ c .before .before .before .before .big2 .ensures) (c .before .wide-size2 .ensures))) ∙ c .before .before .before .before .before .before .before .before .loop .inv .1)
+
+returns : tie.Need-returns Inv-loop μ-loop
+returns c = sym (same-stop _ _ (c .before .before .before .before .before .before .before .loop-test .taken) refl (λ z. c .if1 .left (c .before .before .before .before .before .place-size .ensures .0 ∙ sym (getD-numbers _ _) ∙ z ∙ sym (wanted-run _ _ _ _ (c .before .before .before .before .before .before .before .before .before .before .before .before .pre .1) (omega arith) (c .before .before .before .size16 .ensures ∙ c .before .before .before .before .big2 .ensures) (c .before .wide-size2 .ensures))))) ∙ c .before .before .before .before .before .before .before .before .loop .inv .1
+
+returns-2 : tie.Need-returns-2 Inv-loop μ-loop
+returns-2 c = same-end _ _ (c .loop-test .left) ∙ c .before .loop .inv .1
+
+pub places-hold-spec : {M : Type 1} → statement M
+places-hold-spec =
+    tie.close
+    (tie.spec
+    Inv-loop
+    μ-loop
+    wide-size-requires
+    loop-holds
+    sub-r
+    mul-place-size
+    array-copy-out-place-size
+    place-size-requires
+    add-big2
+    mul-big2
+    add-big2-2
+    big2-requires
+    size16-requires
+    shared-slice-read-wide-size
+    wide-size-requires-2
+    add-if1
+    loop-less
+    loop-again
+    returns
+    returns-2)
