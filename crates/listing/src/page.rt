@@ -7,6 +7,7 @@ use number::wide_size;
 use number::wide32;
 use tray::Place;
 use tray::RunNo;
+use tray::frame::size16;
 use walk::cursor::Cursor;
 use walk::cursor::load;
 ghost use mathlib.Core.Path.{_≡_};
@@ -15,10 +16,11 @@ ghost use lib.ListN.{length};
 ghost use Rattle.number.specs.Big.{put};
 ghost use Rattle.tray.specs.Frame.{runCount, countOf, runBytes, Starts};
 ghost use Rattle.tray.specs.Run.{recordAt};
-ghost use Rattle.walk.specs.Walk.{walkFrom};
+ghost use Rattle.walk.specs.Walk.{stayed, ended, lost, walkFrom};
 ghost use Rattle.walk.specs.Reads.{listedBytes, pageVisit};
 ghost use Rattle.walk.specs.Code.{Walking, spotOf};
-ghost use Rattle.listing.specs.Page.{begun, pagedOf};
+ghost use Rattle.listing.specs.Page.{written, begun, pagedOf, Says};
+ghost use Rattle.listing.specs.Steps.{spotAt};
 
 // How a page ends: at a record that is not written, at the end, or lost at a selector of a segment.
 pub enum Stop {
@@ -34,7 +36,22 @@ pub struct Paged {
     pub cursor: Cursor,
 }
 
-// Key and value of the record at a place of a run, written from a byte on: the run is handed on as its own stretch of the tray.
+// Key and value of the record at a place of a run, written from a byte on, 8 bytes at a time.
+fn write_from(run: &[u8], p: Place, out: &mut [u8], at: usize)
+    requires { ⌜ (25 * p .0 + 25 ≤ length (now run)) × (at + 24 ≤ length (now out)) ⌝ }
+    ensures { λ _. ⌜ now (out .exit) ≡ put (now (out .entry)) at (listedBytes (recordAt (now (run .entry)) (p .0))) ⌝ }
+{
+    let i = p.0;
+    let from = 25 * size16(i);
+    let key = big8(run, from);
+    let high = big8(run, from + 9);
+    let low = big8(run, from + 17);
+    put8(out, at, key);
+    put8(out, at + 8, high);
+    put8(out, at + 16, low);
+}
+
+// The same for a run of the tray: the run is handed on as its own stretch of the tray.
 fn write_point(t: &[u8], starts: &[usize], r: RunNo, p: Place, out: &mut [u8], at: usize)
     requires { ⌜ Starts (now t) (now starts) ⌝ }
     requires { ⌜ (r .0 < runCount (now t)) × (p .0 < countOf (now t) (r .0)) × (at + 24 ≤ length (now out)) ⌝ }
@@ -45,6 +62,56 @@ fn write_point(t: &[u8], starts: &[usize], r: RunNo, p: Place, out: &mut [u8], a
     let a = starts[i];
     let e = starts[i + 1];
     write_from(&t[a..e], p, out, at);
+}
+
+// The page stays at a record that is not written.
+fn more(count: usize, g: u32, s: u8, places: [Place; 63]) -> Paged
+    ensures { λ r. ⌜ Says r (λ o. stayed (written count o, spotAt g s places)) ⌝ }
+{
+    Paged {
+        stop: Stop::More,
+        count,
+        cursor: Cursor {
+            segment: SegmentNo(g),
+            selector: s,
+            places,
+        },
+    }
+}
+
+// The cursor of nothing.
+fn no_cursor() -> Cursor {
+    Cursor {
+        segment: SegmentNo(0),
+        selector: 0,
+        places: [Place(0); 63],
+    }
+}
+
+// The page is lost at a selector of a segment.
+fn page_lost(count: usize, g: u32, s: u8) -> Paged
+    ensures { λ r. ⌜ Says r (λ o. lost g s (written count o)) ⌝ }
+{
+    Paged {
+        stop: Stop::Lost(g, wide32(s)),
+        count,
+        cursor: no_cursor(),
+    }
+}
+
+// The page comes to the end.
+fn page_end(count: usize, n: u32) -> Paged
+    ensures { λ r. ⌜ Says r (λ o. ended (written count o)) ⌝ }
+{
+    Paged {
+        stop: Stop::End,
+        count,
+        cursor: Cursor {
+            segment: SegmentNo(n),
+            selector: 0,
+            places: [Place(0); 63],
+        },
+    }
 }
 
 // The page from a cursor that is not the end.
