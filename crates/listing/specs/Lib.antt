@@ -2,3 +2,4 @@
 -- `walk`, and their answers.
 pub mod Steps
 pub mod Page
+pub mod Count

@@ -1,2 +1,3 @@
 // Going on from a cursor (document 01, "Reading through an index"): next, page and sheet.
+pub mod count;
 pub mod page;

@@ -36,7 +36,8 @@ pub struct Paged {
     pub cursor: Cursor,
 }
 
-// Key and value of the record at a place of a run, written from a byte on, 8 bytes at a time.
+// Key and value of the record at a place of a run, written from a byte on, 8 bytes at a time. All is read before anything is written: so each
+// number is one load and one store, and the compiler joins two of them.
 fn write_from(run: &[u8], p: Place, out: &mut [u8], at: usize)
     requires { ⌜ (25 * p .0 + 25 ≤ length (now run)) × (at + 24 ≤ length (now out)) ⌝ }
     ensures { λ _. ⌜ now (out .exit) ≡ put (now (out .entry)) at (listedBytes (recordAt (now (run .entry)) (p .0))) ⌝ }
