@@ -3,3 +3,4 @@
 pub mod Steps
 pub mod Page
 pub mod Count
+pub mod Second

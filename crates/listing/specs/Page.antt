@@ -11,8 +11,8 @@ use Rattle.listing.specs.declared.page.Stop.the-variants.{More, End, Los
 use Rattle.listing.specs.declared.page.Paged.{Paged}
 
 -- so many records are written, and the output
-abbrev pub written : ℕ → List ℕ → Written
-written count out = record { count = count; out = out }
+abbrev pub soFar : ℕ → List ℕ → Written
+soFar count out = record { count = count; out = out }
 
 -- nothing is written yet
 unfoldable pub begun : List ℕ → Written

@@ -19,7 +19,7 @@ ghost use Rattle.tray.specs.Run.{recordAt};
 ghost use Rattle.walk.specs.Walk.{stayed, ended, lost, walkFrom};
 ghost use Rattle.walk.specs.Reads.{listedBytes, pageVisit};
 ghost use Rattle.walk.specs.Code.{Walking, spotOf};
-ghost use Rattle.listing.specs.Page.{written, begun, pagedOf, Says};
+ghost use Rattle.listing.specs.Page.{soFar, begun, pagedOf, Says};
 ghost use Rattle.listing.specs.Steps.{spotAt};
 
 // How a page ends: at a record that is not written, at the end, or lost at a selector of a segment.
@@ -67,7 +67,7 @@ fn write_point(t: &[u8], starts: &[usize], r: RunNo, p: Place, out: &mut [u8], a
 
 // The page stays at a record that is not written.
 fn more(count: usize, g: u32, s: u8, places: [Place; 63]) -> Paged
-    ensures { λ r. ⌜ Says r (λ o. stayed (written count o, spotAt g s places)) ⌝ }
+    ensures { λ r. ⌜ Says r (λ o. stayed (soFar count o, spotAt g s places)) ⌝ }
 {
     Paged {
         stop: Stop::More,
@@ -91,7 +91,7 @@ fn no_cursor() -> Cursor {
 
 // The page is lost at a selector of a segment.
 fn page_lost(count: usize, g: u32, s: u8) -> Paged
-    ensures { λ r. ⌜ Says r (λ o. lost g s (written count o)) ⌝ }
+    ensures { λ r. ⌜ Says r (λ o. lost g s (soFar count o)) ⌝ }
 {
     Paged {
         stop: Stop::Lost(g, wide32(s)),
@@ -102,7 +102,7 @@ fn page_lost(count: usize, g: u32, s: u8) -> Paged
 
 // The page comes to the end.
 fn page_end(count: usize, n: u32) -> Paged
-    ensures { λ r. ⌜ Says r (λ o. ended (written count o)) ⌝ }
+    ensures { λ r. ⌜ Says r (λ o. ended (soFar count o)) ⌝ }
 {
     Paged {
         stop: Stop::End,

@@ -27,7 +27,7 @@ use Rattle.walk.specs.Code.Load.{loadedFrom}
 use Rattle.walk.specs.Code.Turns.{Here, place-is, here-enter}
 use Rattle.walk.specs.Reads.Page.{length-listed}
 use Rattle.listing.specs.Steps.{spotAt, onward, here-first, here-inner, here-back, here-pass, here-go}
-use Rattle.listing.specs.Page.{written}
+use Rattle.listing.specs.Page.{soFar}
 
 -- a value's bytes in two halves
 value-halves : (s : List ℕ) (at : ℕ) → be 8 s (at + 8) < 256 ^ 8 → bytesOf 8 (be 8 s at) ++ bytesOf 8 (be 8 s (at + 8)) ≡ bytesOf 16 (be 16 s at)
@@ -76,32 +76,32 @@ module _ {t x : List ℕ} {h d n : ℕ} {counts : List ℕ} (w : Walking t x h d
   -- an unmarked record is written where there is room,
   pub visit-write : {after : List ℕ} → v < 64 → 24 * count + 24 ≤ length out
       → after ≡ put out (24 * count) (listedBytes (recordAt (runBytes t v) (getD places i (placed 0) .0)))
-      → pageVisit t v (spotAt g s places) (written count out) ≡ go (written (count + 1) after)
+      → pageVisit t v (spotAt g s places) (soFar count out) ≡ go (soFar (count + 1) after)
   unfolding pageVisit unmarked write
   visit-write {after} l room a =
       rw (lt-ltb v 64 l, le-leb (24 * count + 24) (length out) room)
-      (ap (λ (o : List ℕ). go (written (count + 1) o)) (ap (λ r. put out (24 * count) (listedBytes r)) (record-is l) ∙ sym a))
+      (ap (λ (o : List ℕ). go (soFar (count + 1) o)) (ap (λ r. put out (24 * count) (listedBytes r)) (record-is l) ∙ sym a))
 
   -- and stays where there is none;
   pub visit-full : v < 64 → length out < 24 * count + 24
-      → pageVisit t v (spotAt g s places) (written count out) ≡ stay (written count out, spotAt g s places)
+      → pageVisit t v (spotAt g s places) (soFar count out) ≡ stay (soFar count out, spotAt g s places)
   unfolding pageVisit unmarked
   visit-full l full = rw (lt-ltb v 64 l, lt-leb (24 * count + 24) (length out) full)
 
   -- a marked one is passed
-  pub visit-marked : 64 ≤ v → pageVisit t v (spotAt g s places) (written count out) ≡ go (written count out)
+  pub visit-marked : 64 ≤ v → pageVisit t v (spotAt g s places) (soFar count out) ≡ go (soFar count out)
   unfolding pageVisit unmarked
   visit-marked l = rw (le-ltb v 64 l)
 
 -- both loops of the page: from here on it answers for the page from where the loop began, and the room is the same
 pub record Paging (t x : List ℕ) (d n slots g₀ s₀ : ℕ) (places₀ : List Place) (count₀ : ℕ) (out₀ : List ℕ) (g s : ℕ) (places : List Place) (count : ℕ) (out : List ℕ) : Type 0 where
-  pub here : Here t x (pageVisit t) d n (onward t x (pageVisit t) d n g₀ s₀ places₀ (written count₀ out₀)) g s places (written count out)
+  pub here : Here t x (pageVisit t) d n (onward t x (pageVisit t) d n g₀ s₀ places₀ (soFar count₀ out₀)) g s places (soFar count out)
   pub kept : length out ≡ length out₀
   pub room : slots ≡ length out / 24
 
 pub paging-first : (t x : List ℕ) {d n slots g s : ℕ} (places : List Place) (count : ℕ) (out : List ℕ) → g < n → s ≤ d → length places ≡ 63 → slots ≡ length out / 24
     → Paging t x d n slots g s places count out g s places count out
-paging-first t x places count out l k r m = record { here = here-first t x (pageVisit t) places (written count out) l k r; kept = refl; room = m }
+paging-first t x places count out l k r m = record { here = here-first t x (pageVisit t) places (soFar count out) l k r; kept = refl; room = m }
 
 module _ {t x : List ℕ} {d n slots g₀ s₀ : ℕ} {places₀ : List Place} {count₀ : ℕ} {out₀ : List ℕ} {g s : ℕ} {places : List Place} {count : ℕ} {out : List ℕ} (i : Paging t x d n slots g₀ s₀ places₀ count₀ out₀ g s places count out) where
   -- the loop over selectors begins

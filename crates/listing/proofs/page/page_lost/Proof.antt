@@ -2,7 +2,7 @@
 use mathlib.Core.Path.{ap}
 use Prim.Native.Nat.{ℕ}
 use Rattle.walk.specs.Walk.{lost}
-use Rattle.listing.specs.Page.{written, pagedOf, pagedAs}
+use Rattle.listing.specs.Page.{soFar, pagedOf, pagedAs}
 use native.Mathlib.Omega.{arith}
 use borrow.Author.Needs.{needs}
 use Rattle.listing.proofs.page.page_lost.Statement.{statement}
@@ -16,7 +16,7 @@ no-cursor-requires c κs = search needs
 
 returns : tie.Need-returns
 unfolding pagedOf pagedAs
-returns c = record { of = λ o. ap (λ (k : ℕ). lost (c .before .before .args .g) k (written (c .before .before .args .count) o)) (c .before .wide32 .ensures) }
+returns c = record { of = λ o. ap (λ (k : ℕ). lost (c .before .before .args .g) k (soFar (c .before .before .args .count) o)) (c .before .wide32 .ensures) }
 
 pub page-lost-spec : {M : Type 1} → statement M
 page-lost-spec = tie.close (tie.spec wide32-requires no-cursor-requires returns)
