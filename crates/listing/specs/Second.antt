@@ -4,12 +4,12 @@
 --     written-count, written-out, written-whole     how many records it wrote, and what stands in the output
 -- Assumes nothing.
 use mathlib.Core.Path.{_≡_, refl, sym, ap, _∙_, subst}
-use Prim.Native.Nat.{ℕ, zero, suc, _+_, _-_, _*_, _≤_, _<_}
+use Prim.Native.Nat.{ℕ, zero, suc, _+_, _-_, _*_, _≤_}
 use native.Mathlib.Nat.{zero-add}
 use native.Mathlib.Omega.{arith}
 use mathlib.Core.Bool.{Bool, true, false, cond}
 use mathlib.Core.List.{List, [], _∷_, _++_, append-nil}
-use lib.ListN.{length, take, drop, length-append}
+use lib.ListN.{length, drop, length-append}
 use lib.Seq.{drop-length}
 use lib.Dec.{eqb, ltb, leb}
 use borrow.Author.Tests.{le-leb, lt-leb}
@@ -19,8 +19,8 @@ use Rattle.theory.specs.Tests.{cases}
 use Rattle.tray.specs.Frame.{runCount}
 use Rattle.index.specs.Layout.{sizeOf, segmentCount}
 use Rattle.index.specs.Scan.{runIn, raise}
-use Rattle.walk.specs.Walk.{Spot, Visit, stay, go, Walked, stayed, ended, lost, loaded, named, selectorAt, walkSelectors, walkSegments, walkFrom}
-use Rattle.walk.specs.Reads.{Written, unmarked, recordBy, write, sheetVisit, pageVisit}
+use Rattle.walk.specs.Walk.{Spot, stay, go, Walked, stayed, ended, lost, loaded, named, selectorAt, walkSelectors, walkSegments, walkFrom}
+use Rattle.walk.specs.Reads.{Written, unmarked, recordBy, sheetVisit, pageVisit}
 use Rattle.walk.specs.Reads.Page.{listing, written, write-more, written-length, length-listing}
 use Rattle.listing.specs.Page.{begun}
 

@@ -5,7 +5,7 @@
 --     here-pass, here-no-run, here-no-place, here-stay, here-go     one selector
 -- Assumes nothing.
 pub mod Maps
-use mathlib.Core.Path.{_≡_, refl, sym, ap₂, _∙_}
+use mathlib.Core.Path.{_≡_, refl, sym, ap, ap₂, _∙_}
 use Prim.Native.Nat.{ℕ, _+_, _-_, _%_, _≤_, _<_}
 use native.Mathlib.Omega.{arith}
 use mathlib.Core.List.{List}
@@ -46,12 +46,13 @@ module _ {S R : Type 0} {t x : List ℕ} {visit : ℕ → Spot → S → Visit S
 
 module _ {t x : List ℕ} {h d n : ℕ} {counts : List ℕ} (w : Walking t x h d n counts) where
   -- from a cursor on
-  pub onward-from : {S R : Type 0} (visit : ℕ → Spot → S → Visit S R) (c : Cursor) (st : S) → c .segment .0 < n → c .selector ≤ d
-      → onward t x visit d n (c .segment .0) (c .selector) (c .places) st ≡ walkFrom t x visit (spotOf c) st
+  pub onward-from : {S R : Type 0} (visit : ℕ → Spot → S → Visit S R) (c : Cursor) {s : ℕ} (st : S) → s ≡ c .selector → c .segment .0 < n
+      → onward t x visit d n (c .segment .0) s (c .places) st ≡ walkFrom t x visit (spotOf c) st
   unfolding onward walkFrom spotOf
-  onward-from visit c st l k =
+  onward-from visit c st e l =
       let count : n ≡ segmentCount x = w .index .count in
-      ap₂ (λ (a b : ℕ). walkSelectors t x visit (a - c .selector) (c .segment .0) (c .selector) (numbers (c .places)) st
+      ap (λ (k : ℕ). onward t x visit d n (c .segment .0) k (c .places) st) e
+      ∙ ap₂ (λ (a b : ℕ). walkSelectors t x visit (a - c .selector) (c .segment .0) (c .selector) (numbers (c .places)) st
       (walkSegments t x visit (b - (c .segment .0 + 1)) (c .segment .0 + 1))) (w .index .size) count
       ∙ sym (rw (lt-ltb (c .segment .0) (segmentCount x) (omega arith)))
 

@@ -4,7 +4,6 @@ use index::SegmentNo;
 use index::frame::segment_at;
 use index::select::head_of;
 use number::wide_size;
-use number::wide32;
 use tray::Place;
 use tray::RunNo;
 use walk::cursor::Cursor;
@@ -50,12 +49,13 @@ pub fn count_from(
 {
     let mut count: usize = 0;
     let mut g = from.segment.0;
-    let mut s = from.selector;
+    let size = wide_size(d);
+    let mut s = wide_size(from.selector);
     let mut places = from.places;
     'walk: loop {
         let first = segment_at(SegmentNo(g), h, d) + 8 + 2 * wide_size(h);
-        while s < d {
-            let v = x[first + wide_size(s)];
+        while s < size {
+            let v = x[first + s];
             if v == 63 {
                 s += 1;
                 continue;
@@ -80,9 +80,9 @@ pub fn count_from(
                     s += 1;
                     continue;
                 }
-                break 'walk tallied(Stop::Lost(g, wide32(s)), count);
+                break 'walk tallied(Stop::Lost(g, s as u32), count);
             }
-            break 'walk tallied(Stop::Lost(g, wide32(s)), count);
+            break 'walk tallied(Stop::Lost(g, s as u32), count);
         }
         g += 1;
         if n <= g {

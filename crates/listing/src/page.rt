@@ -4,7 +4,6 @@ use index::frame::segment_at;
 use number::big8;
 use number::put8;
 use number::wide_size;
-use number::wide32;
 use tray::Place;
 use tray::RunNo;
 use tray::frame::size16;
@@ -66,7 +65,8 @@ fn write_point(t: &[u8], starts: &[usize], r: RunNo, p: Place, out: &mut [u8], a
 }
 
 // The page stays at a record that is not written.
-fn more(count: usize, g: u32, s: u8, places: [Place; 63]) -> Paged
+fn more(count: usize, g: u32, s: usize, places: [Place; 63]) -> Paged
+    requires { ⌜ s < 256 ⌝ }
     ensures { λ r. ⌜ Says r (λ o. stayed (soFar count o, spotAt g s places)) ⌝ }
 {
     Paged {
@@ -74,7 +74,7 @@ fn more(count: usize, g: u32, s: u8, places: [Place; 63]) -> Paged
         count,
         cursor: Cursor {
             segment: SegmentNo(g),
-            selector: s,
+            selector: s as u8,
             places,
         },
     }
@@ -90,11 +90,12 @@ fn no_cursor() -> Cursor {
 }
 
 // The page is lost at a selector of a segment.
-fn page_lost(count: usize, g: u32, s: u8) -> Paged
+fn page_lost(count: usize, g: u32, s: usize) -> Paged
+    requires { ⌜ s < 256 ⌝ }
     ensures { λ r. ⌜ Says r (λ o. lost g s (soFar count o)) ⌝ }
 {
     Paged {
-        stop: Stop::Lost(g, wide32(s)),
+        stop: Stop::Lost(g, s as u32),
         count,
         cursor: no_cursor(),
     }
@@ -115,7 +116,7 @@ fn page_end(count: usize, n: u32) -> Paged
     }
 }
 
-// The page from a cursor that is not the end.
+// The page from a cursor that is not the end. The selector is carried at the width of a place in the index: at its own the loop is slower.
 pub fn page_from(
     t: &[u8],
     x: &[u8],
@@ -135,12 +136,13 @@ pub fn page_from(
     let slots = out.len() / 24;
     let mut count: usize = 0;
     let mut g = from.segment.0;
-    let mut s = from.selector;
+    let size = wide_size(d);
+    let mut s = wide_size(from.selector);
     let mut places = from.places;
     'walk: loop {
         let first = segment_at(SegmentNo(g), h, d) + 8 + 2 * wide_size(h);
-        while s < d {
-            let v = x[first + wide_size(s)];
+        while s < size {
+            let v = x[first + s];
             if v == 63 {
                 s += 1;
                 continue;

@@ -1,19 +1,20 @@
 -- What the code of the count needs of the definitions: it carries the number of records, not the records.
 --     tallyVisit, tally-is                                what sheet does, in numbers
+--     counted-stayed, counted-ended, counted-lost         what a count says of the records
 --     visit-bound, visit-below, visit-marked              at a selector
 --     Counting                                            both loops of the count
 --     counting-first, counting-inner, counting-back, counting-enter, counting-pass, counting-below, counting-marked
 -- Assumes nothing.
 use mathlib.Core.Path.{_≡_, refl, sym, ap, ap₂, _∙_}
-use Prim.Native.Nat.{ℕ, suc, _+_, _*_, _%_, _≤_, _<_}
+use Prim.Native.Nat.{ℕ, _+_, _*_, _%_, _≤_, _<_}
 use native.Mathlib.Omega.{arith}
-use mathlib.Core.Bool.{Bool, true, false, cond}
-use mathlib.Core.List.{List, [], _∷_, _++_}
+use mathlib.Core.Bool.{cond}
+use mathlib.Core.List.{List, [], _∷_}
 use lib.ListN.{length, getD, set, length-append}
-use lib.Dec.{leb, ltb}
+use lib.Dec.{leb}
 use borrow.Author.Tests.{lt-ltb, le-ltb, le-leb, lt-leb}
 use Rattle.theory.specs.Records.{Record}
-use Rattle.theory.specs.Tests.{cases}
+use Rattle.theory.specs.Tests.{cases, never}
 use Rattle.tray.specs.declared.Place.{Place}
 use Rattle.tray.specs.Frame.{runCount, runBytes}
 use Rattle.tray.specs.Run.{recordAt}
@@ -46,6 +47,25 @@ unfolding mapWalked lengths
 lengths-is (stayed es) = refl
 lengths-is (ended es) = refl
 lengths-is (lost g s es) = refl
+
+-- what a count that has stayed, ended or is lost says of the records
+pub counted-stayed : (w : Walked (List Record) (List Record)) {k : ℕ} → stayed k ≡ lengths w → (es : List Record) × (w ≡ stayed es) × (length es ≡ k)
+unfolding lengths
+counted-stayed (stayed es) h = (es, refl, cc)
+counted-stayed (ended es) h = never cc
+counted-stayed (lost g s es) h = never cc
+
+pub counted-ended : (w : Walked (List Record) (List Record)) {k : ℕ} → ended k ≡ lengths w → (es : List Record) × (w ≡ ended es) × (length es ≡ k)
+unfolding lengths
+counted-ended (stayed es) h = never cc
+counted-ended (ended es) h = (es, refl, cc)
+counted-ended (lost g s es) h = never cc
+
+pub counted-lost : (w : Walked (List Record) (List Record)) {g s k : ℕ} → lost g s k ≡ lengths w → (es : List Record) × (w ≡ lost g s es) × (length es ≡ k)
+unfolding lengths
+counted-lost (stayed es) h = never cc
+counted-lost (ended es) h = never cc
+counted-lost (lost g s es) h = (es, cc, cc)
 
 pub tally-is : (t x : List ℕ) (high : ℕ) (c : Spot) (es : List Record) → walkFrom t x (tallyVisit t high) c (length es) ≡ lengths (walkFrom t x (sheetVisit t high) c es)
 tally-is t x high c es =

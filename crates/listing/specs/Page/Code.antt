@@ -6,22 +6,20 @@
 --     paging-pass, paging-write, paging-marked                 their turns
 -- Assumes nothing.
 use mathlib.Core.Path.{_≡_, refl, sym, ap, ap₂, _∙_}
-use Prim.Native.Nat.{ℕ, suc, _+_, _-_, _*_, _/_, _%_, _^_, _≤_, _<_}
+use Prim.Native.Nat.{ℕ, _+_, _*_, _/_, _%_, _^_, _≤_, _<_}
 use native.Mathlib.Omega.{arith}
-use mathlib.Core.Bool.{Bool, true, false, cond}
 use mathlib.Core.List.{List, _++_, append-assoc}
 use lib.ListN.{length, getD, set, length-append}
-use lib.Dec.{leb, ltb}
 use borrow.Author.Tests.{lt-ltb, le-ltb, le-leb, lt-leb}
 use Rattle.number.specs.Big.{be, bytesOf, put}
 use Rattle.number.specs.Big.Laws.{be-add, bytesOf-add, length-bytesOf}
 use Rattle.number.specs.Big.Writes.{put-put, length-put}
 use Rattle.tray.specs.declared.Place.{Place}
-use Rattle.tray.specs.Frame.{runCount, countOf, runBytes}
+use Rattle.tray.specs.Frame.{runCount, runBytes}
 use Rattle.index.specs.Layout.{segmentAt}
 use Rattle.tray.specs.Run.{recordFrom, recordAt}
-use Rattle.walk.specs.Walk.{Spot, Walked, stay, go, selectorAt}
-use Rattle.walk.specs.Reads.{Written, listedBytes, write, unmarked, recordBy, pageVisit}
+use Rattle.walk.specs.Walk.{stay, go, selectorAt}
+use Rattle.walk.specs.Reads.{listedBytes, write, unmarked, recordBy, pageVisit}
 use Rattle.walk.specs.Code.{placed, numbers, Walking}
 use Rattle.walk.specs.Code.Load.{loadedFrom}
 use Rattle.walk.specs.Code.Turns.{Here, place-is, here-enter}

@@ -1,8 +1,6 @@
 -- `listing::count::tallied` meets its contract. Assumes nothing.
 use mathlib.Core.Path.{refl}
 use Rattle.listing.specs.Count.{countedOf}
-use native.Mathlib.Omega.{arith}
-use borrow.Author.Needs.{needs}
 use Rattle.listing.proofs.count.tallied.Statement.{statement}
 use Rattle.listing.proofs.count.tallied.Tie as tie
 

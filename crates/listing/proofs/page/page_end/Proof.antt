@@ -1,8 +1,6 @@
 -- `listing::page::page_end` meets its contract. Assumes nothing.
 use mathlib.Core.Path.{refl}
 use Rattle.listing.specs.Page.{pagedOf, pagedAs}
-use native.Mathlib.Omega.{arith}
-use borrow.Author.Needs.{needs}
 use Rattle.listing.proofs.page.page_end.Statement.{statement}
 use Rattle.listing.proofs.page.page_end.Tie as tie
 
