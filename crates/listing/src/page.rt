@@ -35,18 +35,17 @@ pub struct Paged {
     pub cursor: Cursor,
 }
 
-// Key and value of the record at a place of a run, written from a byte on, 8 bytes at a time. All is read before anything is written: so each
-// number is one load and one store, and the compiler joins two of them.
+// Key and value of the record at a place of a run, written from a byte on. Both halves of the value are read before either is written: so the
+// compiler joins them, and a record is two loads and two stores.
 fn write_from(run: &[u8], p: Place, out: &mut [u8], at: usize)
     requires { ⌜ (25 * p .0 + 25 ≤ length (now run)) × (at + 24 ≤ length (now out)) ⌝ }
     ensures { λ _. ⌜ now (out .exit) ≡ put (now (out .entry)) at (listedBytes (recordAt (now (run .entry)) (p .0))) ⌝ }
 {
     let i = p.0;
     let from = 25 * size16(i);
-    let key = big8(run, from);
+    put8(out, at, big8(run, from));
     let high = big8(run, from + 9);
     let low = big8(run, from + 17);
-    put8(out, at, key);
     put8(out, at + 8, high);
     put8(out, at + 16, low);
 }

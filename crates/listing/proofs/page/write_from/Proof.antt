@@ -16,6 +16,9 @@ mul-from c = search needs
 big8-requires : tie.Need-big8-requires
 big8-requires c κs = search needs
 
+put8-requires : tie.Need-put8-requires
+put8-requires c κs = search needs
+
 add-big8 : tie.Need-add-big8
 add-big8 c = search needs
 
@@ -27,9 +30,6 @@ add-big8-2 c = search needs
 
 big8-requires-3 : tie.Need-big8-requires-3
 big8-requires-3 c κs = search needs
-
-put8-requires : tie.Need-put8-requires
-put8-requires c κs = search needs
 
 add-put8 : tie.Need-add-put8
 add-put8 c = search needs
@@ -47,7 +47,7 @@ same-length : tie.Need-same-length
 same-length c = search needs
 
 returns : tie.Need-returns
-returns c = put-listed _ _ _ _ (omega arith) (omega arith) (ap (λ (k : ℕ). 25 * k) (c .before .before .before .before .before .before .before .before .before .before .before .before .before .before .before .size16 .ensures)) (c .before .before .before .before .before .before .before .before .before .before .before .before .before .before .big8 .ensures) (c .before .before .before .before .before .before .before .before .before .before .before .before .before .big82 .ensures) (c .before .before .before .before .before .before .before .before .before .before .before .before .big83 .ensures) (c .before .before .before .before .before .before .before .before .before .before .put8 .ensures) (c .before .before .before .before .before .before .put82 .ensures) (c .before .before .put83 .ensures)
+returns c = put-listed _ _ _ _ (omega arith) (omega arith) (ap (λ (k : ℕ). 25 * k) (c .before .before .before .before .before .before .before .before .before .before .before .before .before .before .before .size16 .ensures)) (c .before .before .before .before .before .before .before .before .before .before .before .before .before .big8 .ensures) (c .before .before .before .before .before .before .before .before .before .big82 .ensures) (c .before .before .before .before .before .before .before .before .big83 .ensures) (c .before .before .before .before .before .before .before .before .before .before .before .before .put8 .ensures) (c .before .before .before .before .before .before .put82 .ensures) (c .before .before .put83 .ensures)
 
 pub write-from-spec : {M : Type 1} → statement M
 write-from-spec =
@@ -56,11 +56,11 @@ write-from-spec =
     size16-requires
     mul-from
     big8-requires
+    put8-requires
     add-big8
     big8-requires-2
     add-big8-2
     big8-requires-3
-    put8-requires
     add-put8
     put8-requires-2
     add-put8-2
