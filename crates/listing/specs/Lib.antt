@@ -4,3 +4,10 @@
 pub mod Standing
 -- next
 pub mod Next
+-- the turns of a walk, whatever its visitor
+pub mod Steps
+-- page
+pub mod Page
+-- how many records sheet lists, and that a page with room for just these writes them
+pub mod Count
+pub mod Second

@@ -2,6 +2,7 @@
 -- each, in order; then the cursor of the first unwritten one, or the end. Nothing else of the output changes.
 --     listing, written     the bytes of some records, and an output with them written
 --     listing-append, length-listed, length-listing     end to end, and how long
+--     write-more, written-length     one record more, and that the output stays as long
 --     room, paged          how many records fit, and what a page of these stops comes to
 --     page-is              a page is that
 -- Not here: pages put together, which are in `Reads/Pages.antt`.
@@ -74,7 +75,7 @@ written-eq : {v w : Written} → v .count ≡ w .count → v .out ≡ w .out →
 written-eq p q = λ i. record { count = p i; out = q i }
 
 -- one record more is written behind the others
-write-more : (es : List Record) (out : List ℕ) (e : Record) → write e (written es out) ≡ written (es ++ (e ∷ [])) out
+pub write-more : (es : List Record) (out : List ℕ) (e : Record) → write e (written es out) ≡ written (es ++ (e ∷ [])) out
 unfolding write written listing
 write-more es out e =
     let count : length es + 1 ≡ length (es ++ (e ∷ [])) = sym (length-append es (e ∷ [])) in
@@ -86,7 +87,7 @@ write-more es out e =
     ∙ ap₂ (λ l n. l ++ drop n out) bytes far)
 
 -- the length of the output stays
-written-length : (es : List Record) (out : List ℕ) → 24 * length es ≤ length out → length (written es out .out) ≡ length out
+pub written-length : (es : List Record) (out : List ℕ) → 24 * length es ≤ length out → length (written es out .out) ≡ length out
 unfolding written
 written-length es out l = simp (length-append, length-listing, length-drop) (omega arith)
 
