@@ -1,9 +1,4 @@
--- Going on from a cursor, for every tray, index, cursor, prefix and room: what the code of next, page and sheet needs of the definitions in
--- `walk`, and their answers.
--- whether a cursor belongs
-pub mod Standing
--- next
-pub mod Next
+-- Listing from a cursor on, for every tray, index, cursor and room: what the code needs of the definitions in `walk`.
 -- the turns of a walk, whatever its visitor
 pub mod Steps
 -- page

@@ -1,5 +1,3 @@
-// Going on from a cursor (document 01, "Reading through an index"): next, page and sheet.
+// Listing from a cursor on (document 01, "Reading through an index"): page, and sheet's two passes.
 pub mod count;
-pub mod next;
 pub mod page;
-pub mod standing;

@@ -1,12 +1,12 @@
--- `listing::standing::tally` meets its contract. Assumes nothing.
+-- `next::standing::tally` meets its contract. Assumes nothing.
 use lib.ListN.{getD}
 use mathlib.Core.Path.{ap}
 use Prim.Native.Nat.{_-_, _≤_, ℕ, _+_}
-use Rattle.listing.specs.Standing.{Tallied, tally-none, tally-low, tally-more, tally-all}
+use Rattle.next.specs.Standing.{Tallied, tally-none, tally-low, tally-more, tally-all}
 use native.Mathlib.Omega.{arith}
 use borrow.Author.Needs.{needs}
-use Rattle.listing.proofs.standing.tally.Statement.{statement}
-use Rattle.listing.proofs.standing.tally.Tie as tie
+use Rattle.next.proofs.standing.tally.Statement.{statement}
+use Rattle.next.proofs.standing.tally.Tie as tie
 
 abbrev Inv-loop : tie.InvT-loop
 Inv-loop x first s seen₀ i₀ seen i = (i ≤ s) × Tallied x first i seen

@@ -1,13 +1,13 @@
--- `listing::standing::places_hold` meets its contract. Assumes nothing.
+-- `next::standing::places_hold` meets its contract. Assumes nothing.
 use mathlib.Core.Path.{_≡_, refl, sym, ap, _∙_}
 use Prim.Native.Nat.{_≤_, _-_}
 use Rattle.index.specs.Scan.Code.{sameTo, same-end, same-next, same-stop}
 use Rattle.walk.specs.Code.{numbers, getD-numbers}
-use Rattle.listing.specs.Standing.{wantedAt, wanted-run}
+use Rattle.next.specs.Standing.{wantedAt, wanted-run}
 use native.Mathlib.Omega.{arith}
 use borrow.Author.Needs.{needs}
-use Rattle.listing.proofs.standing.places_hold.Statement.{statement}
-use Rattle.listing.proofs.standing.places_hold.Tie as tie
+use Rattle.next.proofs.standing.places_hold.Statement.{statement}
+use Rattle.next.proofs.standing.places_hold.Tie as tie
 
 abbrev Inv-loop : tie.InvT-loop
 Inv-loop x at h seen places r₀ r = (r ≤ h) × (sameTo (numbers places) (wantedAt h x at seen) r ≡ sameTo (numbers places) (wantedAt h x at seen) h)

@@ -1,10 +1,10 @@
--- `listing::standing::stands` meets its contract. Assumes nothing.
+-- `next::standing::stands` meets its contract. Assumes nothing.
 use mathlib.Core.Path.{sym}
-use Rattle.listing.specs.Standing.{segment-inside, stands-told, stands-off}
+use Rattle.next.specs.Standing.{segment-inside, stands-told, stands-off}
 use native.Mathlib.Omega.{arith}
 use borrow.Author.Needs.{needs}
-use Rattle.listing.proofs.standing.stands.Statement.{statement}
-use Rattle.listing.proofs.standing.stands.Tie as tie
+use Rattle.next.proofs.standing.stands.Statement.{statement}
+use Rattle.next.proofs.standing.stands.Tie as tie
 
 segment-at-requires : tie.Need-segment-at-requires
 segment-at-requires c κs = search needs

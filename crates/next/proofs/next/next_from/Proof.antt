@@ -1,13 +1,13 @@
--- `listing::next::next_from` meets its contract. Assumes nothing.
+-- `next::next::next_from` meets its contract. Assumes nothing.
 use mathlib.Core.Path.{sym, _∙_}
 use lib.ListN.{length-map}
 use Rattle.walk.specs.Code.Moves.{same-place}
-use Rattle.listing.specs.Next.{next-gap, next-record, next-no-run, next-no-place, gap-within, record-within}
+use Rattle.next.specs.Next.{next-gap, next-record, next-no-run, next-no-place, gap-within, record-within}
 use Rattle.walk.specs.Code.Turns.{within, selector-is}
 use native.Mathlib.Omega.{arith}
 use borrow.Author.Needs.{needs}
-use Rattle.listing.proofs.next.next_from.Statement.{statement}
-use Rattle.listing.proofs.next.next_from.Tie as tie
+use Rattle.next.proofs.next.next_from.Statement.{statement}
+use Rattle.next.proofs.next.next_from.Tie as tie
 
 segment-at-requires : tie.Need-segment-at-requires
 segment-at-requires c κs = search needs

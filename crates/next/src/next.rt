@@ -15,7 +15,7 @@ ghost use Prim.Native.Nat.{_≤_, _<_};
 ghost use Rattle.walk.specs.Walk.{walkFrom};
 ghost use Rattle.walk.specs.Reads.{next as nextOf};
 ghost use Rattle.walk.specs.Code.{Walking, spotOf, soughtOf};
-ghost use Rattle.listing.specs.Next.{visibleVisit};
+ghost use Rattle.next.specs.Next.{visibleVisit};
 
 // The first visible record at or after a cursor that is not the end. It reads counts and index bytes, and no record.
 fn first_from(t: &[u8], x: &[u8], h: u8, d: u8, n: u32, counts: &[u16], from: Cursor) -> Sought

@@ -13,7 +13,7 @@ ghost use Rattle.index.specs.Scan.Code.{sameTo};
 ghost use Rattle.walk.specs.Start.Code.{Probing};
 ghost use Rattle.walk.specs.Reads.{placesAt, samePlaces, belongs as belongsTo};
 ghost use Rattle.walk.specs.Code.{numbers, spotOf};
-ghost use Rattle.listing.specs.Standing.{sumFor, Tallied, wantedAt};
+ghost use Rattle.next.specs.Standing.{sumFor, Tallied, wantedAt};
 
 // A place as a number, and how high it can be.
 fn place_size(p: Place) -> usize

@@ -1,14 +1,14 @@
--- `listing::next::first_from` meets its contract. Assumes nothing.
+-- `next::next::first_from` meets its contract. Assumes nothing.
 use mathlib.Core.Path.{sym, _∙_}
 use lib.ListN.{length-set, length-map}
 use Rattle.walk.specs.Code.Turns.{within, selector-is, named-run, named-yes, named-past, here-at, here-whole, here-into, here-end, here-enter}
 use Rattle.walk.specs.Code.{selectors-pass, selectors-lost, selectors-stay, selectors-go, raise-numbers, spotOf}
-use Rattle.listing.specs.Next.{Inner, Outer, visible-go, visible-stay, sight-there}
+use Rattle.next.specs.Next.{Inner, Outer, visible-go, visible-stay, sight-there}
 use Prim.Native.Nat.{_-_}
 use native.Mathlib.Omega.{arith}
 use borrow.Author.Needs.{needs}
-use Rattle.listing.proofs.next.first_from.Statement.{statement}
-use Rattle.listing.proofs.next.first_from.Tie as tie
+use Rattle.next.proofs.next.first_from.Statement.{statement}
+use Rattle.next.proofs.next.first_from.Tie as tie
 
 abbrev Inv-loop : tie.InvT-loop
 Inv-loop t x h d n counts g s₀ places₀ first s places = Inner t x d n g s₀ places₀ s places

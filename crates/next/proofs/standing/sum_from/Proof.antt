@@ -1,13 +1,13 @@
--- `listing::standing::sum_from` meets its contract. Assumes nothing.
+-- `next::standing::sum_from` meets its contract. Assumes nothing.
 use mathlib.Core.Path.{_≡_, sym, ap, _∙_}
 use native.Mathlib.Nat.{zero-add, add-assoc}
 use Prim.Native.Nat.{ℕ, _+_, _-_, _*_, _≤_}
 use Rattle.walk.specs.Code.{numbers, getD-numbers}
-use Rattle.listing.specs.Standing.{sumFor, sum-end, sum-next}
+use Rattle.next.specs.Standing.{sumFor, sum-end, sum-next}
 use native.Mathlib.Omega.{arith}
 use borrow.Author.Needs.{needs}
-use Rattle.listing.proofs.standing.sum_from.Statement.{statement}
-use Rattle.listing.proofs.standing.sum_from.Tie as tie
+use Rattle.next.proofs.standing.sum_from.Statement.{statement}
+use Rattle.next.proofs.standing.sum_from.Tie as tie
 
 abbrev Inv-loop : tie.InvT-loop
 Inv-loop from places sum₀ r₀ sum r = (r ≤ 63) × (sum ≤ 65535 * r) × (sum + sumFor (63 - r) (numbers places) r ≡ sumFor (63 - r₀) (numbers places) r₀)

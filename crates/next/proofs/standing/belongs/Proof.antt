@@ -1,9 +1,9 @@
--- `listing::standing::belongs` meets its contract. Assumes nothing.
+-- `next::standing::belongs` meets its contract. Assumes nothing.
 use Rattle.walk.specs.Code.{spotOf}
-use Rattle.listing.specs.Standing.{belongs-there, belongs-past, belongs-beyond, belongs-inner, belongs-end}
+use Rattle.next.specs.Standing.{belongs-there, belongs-past, belongs-beyond, belongs-inner, belongs-end}
 use borrow.Author.Needs.{needs}
-use Rattle.listing.proofs.standing.belongs.Statement.{statement}
-use Rattle.listing.proofs.standing.belongs.Tie as tie
+use Rattle.next.proofs.standing.belongs.Statement.{statement}
+use Rattle.next.proofs.standing.belongs.Tie as tie
 
 stands-requires : tie.Need-stands-requires
 stands-requires c κs = (c .before .before .before .pre .0, (c .before .before .before .pre .1, c .before .if1 .taken, c .if2 .taken))
