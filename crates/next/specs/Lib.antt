@@ -3,3 +3,5 @@
 pub mod Standing
 -- past the current selector, and on
 pub mod Next
+-- next's answer for every input
+pub mod Answers

@@ -49,7 +49,7 @@ unfolding numbers
 places-back [] = refl
 places-back (p ∷ ps) = ap (λ (l : List Place). p ∷ l) (places-back ps)
 
-cursor-back : (c : Cursor) → cursorOf (spotOf c) ≡ c
+pub cursor-back : (c : Cursor) → cursorOf (spotOf c) ≡ c
 unfolding cursorOf spotOf
 cursor-back c = ap (λ (ps : List Place). record { segment = c .segment; selector = c .selector; places = ps }) (places-back (c .places))
 
