@@ -1,6 +1,7 @@
 -- Sheet's second pass is a page with room for just the records of its first pass: where the first comes to its bound or the end, the page
 -- writes these records, and stays at the bound or comes to the end. So sheet needs no walk of its own that writes.
 --     second-bound, second-end    what the page comes to
+--     second-listed               what its code leaves in the output: the records that the first pass lists
 --     written-count, written-out, written-whole     how many records it wrote, and what stands in the output
 -- Assumes nothing.
 use mathlib.Core.Path.{_≡_, refl, sym, ap, _∙_, subst}
@@ -22,20 +23,26 @@ use Rattle.index.specs.Scan.{runIn, raise}
 use Rattle.walk.specs.Walk.{Spot, stay, go, Walked, stayed, ended, lost, loaded, named, selectorAt, walkSelectors, walkSegments, walkFrom}
 use Rattle.walk.specs.Reads.{Written, unmarked, recordBy, sheetVisit, pageVisit}
 use Rattle.walk.specs.Reads.Page.{listing, written, write-more, written-length, length-listing}
-use Rattle.listing.specs.Page.{begun}
+use Rattle.walk.specs.Reads.Sheet.{Lists}
+use Rattle.walk.specs.Reads.Sheet.Lists.{to-bound, to-end}
+use Rattle.walk.specs.Code.{spotOf}
+use Rattle.listing.specs.declared.page.Stop.{Stop}
+use Rattle.listing.specs.declared.page.Stop.the-variants.{More, End, Lost}
+use Rattle.listing.specs.declared.page.Paged.{Paged}
+use Rattle.listing.specs.Page.{soFar, begun, pagedAs, pagedOf}
 
 -- what the page comes to, by what the first pass came to from n records on: where the room is just that of its records, the same
 data Second (out : List ℕ) (n : ℕ) : Walked (List Record) (List Record) → Walked Written (Written × Spot) → Type 0 where
-  to-bound : {es : List Record} {p : Walked Written (Written × Spot)} → n ≤ length es → (length out ≡ 24 * length es → (c : Spot) × (p ≡ stayed (written es out, c))) → Second out n (stayed es) p
-  to-end : {es : List Record} {p : Walked Written (Written × Spot)} → n ≤ length es → (length out ≡ 24 * length es → p ≡ ended (written es out)) → Second out n (ended es) p
-  to-loss : {g s : ℕ} {es : List Record} {p : Walked Written (Written × Spot)} → Second out n (lost g s es) p
+  at-bound : {es : List Record} {p : Walked Written (Written × Spot)} → n ≤ length es → (length out ≡ 24 * length es → (c : Spot) × (p ≡ stayed (written es out, c))) → Second out n (stayed es) p
+  at-end : {es : List Record} {p : Walked Written (Written × Spot)} → n ≤ length es → (length out ≡ 24 * length es → p ≡ ended (written es out)) → Second out n (ended es) p
+  at-loss : {g s : ℕ} {es : List Record} {p : Walked Written (Written × Spot)} → Second out n (lost g s es) p
 
 -- from fewer records on, where the page goes the same way as long as there is room
 second-less : {out : List ℕ} {n m : ℕ} {w : Walked (List Record) (List Record)} {p q : Walked Written (Written × Spot)} → Second out m w q → n ≤ m
     → (24 * m ≤ length out → p ≡ q) → Second out n w p
-second-less (to-bound {es} l f) k e = to-bound {es = es} (omega arith) (λ r. let z = e (omega arith) in (f r .0, z ∙ f r .1))
-second-less (to-end {es} l f) k e = to-end {es = es} (omega arith) (λ r. let z = e (omega arith) in z ∙ f r)
-second-less to-loss k e = to-loss
+second-less (at-bound {es} l f) k e = at-bound {es = es} (omega arith) (λ r. let z = e (omega arith) in (f r .0, z ∙ f r .1))
+second-less (at-end {es} l f) k e = at-end {es = es} (omega arith) (λ r. let z = e (omega arith) in z ∙ f r)
+second-less at-loss k e = at-loss
 
 -- both by one test
 both : {A B : Type 0} (P : A → B → Type 0) (b : Bool) {y n : A} {y′ n′ : B} → P y y′ → P n n′ → P (cond b y n) (cond b y′ n′)
@@ -83,7 +90,7 @@ module _ (t x : List ℕ) (high : ℕ) (out : List ℕ) where
         cases (unmarked v)
         (λ y.
         cases (leb high (recordBy t v c .key))
-        (λ a. rw (y, a) (to-bound {es = es} (omega arith) (λ r. (c, page-stays on′ y r))))
+        (λ a. rw (y, a) (at-bound {es = es} (omega arith) (λ r. (c, page-stays on′ y r))))
         (λ a.
         let more : length (es ++ (recordBy t v c ∷ [])) ≡ length es + 1 = length-append es (recordBy t v c ∷ []) in
         rw (y, a) (second-less (h (es ++ (recordBy t v c ∷ []))) (omega arith) (page-goes on′ y))))
@@ -101,14 +108,14 @@ module _ (t x : List ℕ) (high : ℕ) (out : List ℕ) where
       (λ (fs : List Record). walkSelectors t x (sheetVisit t high) k g (s + 1) (raise places (runIn v)) fs rest)
       (λ (w : Written). walkSelectors t x (pageVisit t) k g (s + 1) (raise places (runIn v)) w rest′)
       (λ fs. second-selectors k g (s + 1) (raise places (runIn v)) fs rest rest′ h))
-      to-loss)
+      at-loss)
     where
       v : ℕ
       v = selectorAt (runCount t) x g s
 
   second-segments : (k g : ℕ) (es : List Record) → Second out (length es) (walkSegments t x (sheetVisit t high) k g es) (walkSegments t x (pageVisit t) k g (written es out))
   unfolding walkSegments
-  second-segments zero g es = to-end {es = es} (omega arith) (λ r. refl)
+  second-segments zero g es = at-end {es = es} (omega arith) (λ r. refl)
   second-segments (suc k) g es =
       second-selectors (sizeOf x) g 0 (loaded (runCount t) x g) es (walkSegments t x (sheetVisit t high) k (g + 1)) (walkSegments t x (pageVisit t) k (g + 1)) (second-segments k (g + 1))
 
@@ -118,14 +125,14 @@ module _ (t x : List ℕ) (high : ℕ) (out : List ℕ) where
       both (Second out 0) (ltb (c .segment) (segmentCount x))
       (second-selectors (sizeOf x - c .selector) (c .segment) (c .selector) (c .places) [] (walkSegments t x (sheetVisit t high) (segmentCount x - (c .segment + 1)) (c .segment + 1))
       (walkSegments t x (pageVisit t) (segmentCount x - (c .segment + 1)) (c .segment + 1)) (second-segments (segmentCount x - (c .segment + 1)) (c .segment + 1)))
-      (to-end {es = []} (omega arith) (λ r. refl))
+      (at-end {es = []} (omega arith) (λ r. refl))
 
   module _ (c : Spot) (es : List Record) (room : length out ≡ 24 * length es) where
     bound-of : {p : Walked Written (Written × Spot)} → Second out 0 (stayed es) p → (e : Spot) × (p ≡ stayed (written es out, e))
-    bound-of (to-bound l f) = f room
+    bound-of (at-bound l f) = f room
 
     end-of : {p : Walked Written (Written × Spot)} → Second out 0 (ended es) p → p ≡ ended (written es out)
-    end-of (to-end l f) = f room
+    end-of (at-end l f) = f room
 
     -- the first pass came to its bound: the page stays there
     pub second-bound : walkFrom t x (sheetVisit t high) c [] ≡ stayed es → (e : Spot) × (walkFrom t x (pageVisit t) c (begun out) ≡ stayed (written es out, e))
@@ -149,3 +156,30 @@ written-out es out = ap (λ (k : ℕ). listing es ++ drop k out) (sym (zero-add 
 pub written-whole : (es : List Record) (out : List ℕ) → length out ≡ 24 * length es → written es out .out ≡ listing es
 unfolding written
 written-whole es out l = ap (λ (r : List ℕ). listing es ++ r) (ap (λ (k : ℕ). drop k out) (sym l) ∙ drop-length out) ∙ append-nil (listing es)
+
+-- what stands in the output where a page ends
+unfoldable outAt : Walked Written (Written × Spot) → List ℕ
+outAt (stayed r) = r .0 .out
+outAt (ended w) = w .out
+outAt (lost g s w) = w .out
+
+out-paged : (r : Paged) (out : List ℕ) → outAt (pagedOf r out) ≡ out
+unfolding outAt pagedOf pagedAs
+out-paged r out = by-stop (r .stop)
+  where
+    by-stop : (s : Stop) → outAt (pagedAs s (soFar (r .count) out) (spotOf (r .cursor))) ≡ out
+    by-stop More = refl
+    by-stop End = refl
+    by-stop (Lost g s) = refl
+
+-- the code of a page with room for just the records that the first pass lists leaves these in the output
+pub second-listed : (t x : List ℕ) (high : ℕ) (c : Spot) (out : List ℕ) (r : Paged) {es : List Record} {after : List ℕ} → length out ≡ 24 * length es
+    → pagedOf r after ≡ walkFrom t x (pageVisit t) c (begun out) → Lists (walkFrom t x (sheetVisit t high) c []) es → after ≡ listing es
+unfolding outAt
+second-listed t x high c out r {es} {after} room page first =
+    sym (out-paged r after) ∙ ap outAt page ∙ by-first (walkFrom t x (sheetVisit t high) c []) refl first ∙ written-whole es out room
+  where
+    by-first : (w : Walked (List Record) (List Record)) → walkFrom t x (sheetVisit t high) c [] ≡ w → Lists w es
+        → outAt (walkFrom t x (pageVisit t) c (begun out)) ≡ written es out .out
+    by-first w e to-bound = ap outAt (second-bound t x high out c es room e .1)
+    by-first w e to-end = ap outAt (second-end t x high out c es room e)
