@@ -1,5 +1,6 @@
 -- What the quick calls answer for every input (document 01, orders: get and seek 1, 4, 10). Assumes nothing.
 pub mod Code
+pub mod Hands
 use Prim.Native.Nat.{ℕ}
 use mathlib.Core.Bool.{cond}
 use mathlib.Core.List.{List, map}

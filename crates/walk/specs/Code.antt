@@ -86,7 +86,7 @@ unfoldable pub soughtOf : Sought → Walked ℕ Found
 soughtOf r = soughtAs (r .sight) (spotOf (r .cursor))
 
 -- what comes after a visit
-pub after-visit : {S R : Type 0} → Visit S R → (S → Walked S R) → Walked S R
+unfoldable pub after-visit : {S R : Type 0} → Visit S R → (S → Walked S R) → Walked S R
 after-visit (stay r) on = stayed r
 after-visit (go st) on = on st
 

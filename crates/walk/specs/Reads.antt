@@ -13,6 +13,7 @@ pub mod Sheet
 pub mod Prefix
 pub mod Selectors
 pub mod Belongs
+pub mod Handed
 use Prim.Native.Nat.{ℕ, zero, suc, _+_, _-_, _*_, _^_}
 use mathlib.Core.Bool.{Bool, true, false, cond, _&&_, _||_}
 use mathlib.Core.List.{List, [], _∷_, _++_}

@@ -14,7 +14,7 @@ use Rattle.walk.specs.Walk.{Spot, Visit, stay, go, Walked, stayed, ended
 use Rattle.walk.specs.Code.{after-visit, one-selector}
 
 -- two answers where a walk stayed are one
-same-stay : {S R : Type 0} {a b : R} → _≡_ {A = Walked S R} (stayed a) (stayed b) → a ≡ b
+pub same-stay : {S R : Type 0} {a b : R} → _≡_ {A = Walked S R} (stayed a) (stayed b) → a ≡ b
 same-stay e = cc
 
 module _ {S R : Type 0} (t x : List ℕ) (visit : ℕ → Spot → S → Visit S R) (P : R → Type 0)

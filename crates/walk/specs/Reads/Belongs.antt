@@ -37,7 +37,7 @@ use Rattle.walk.specs.Reads.Selectors.{placesAt-are, record-at}
 use Rattle.walk.specs.Reads.Standing.{Standing, at-stop, at-gap, at-end}
 use Rattle.walk.specs.Reads.{endSpot, placesAt, samePlaces, belongs}
 
-same-itself : (xs : List ℕ) (k : ℕ) → sameTo xs xs k ≡ true
+pub same-itself : (xs : List ℕ) (k : ℕ) → sameTo xs xs k ≡ true
 unfolding sameTo
 same-itself xs zero = refl
 same-itself xs (suc k) = and-true (eq-eqb (getD xs k 0) (getD xs k 0) refl) (same-itself xs k)
