@@ -1,6 +1,7 @@
 -- What next answers for every input (document 01, order: 1, 4, 11, 10; from the end it gives the end; a refused next hands back the cursor that
 -- it was given). Assumes nothing.
 pub mod Code
+pub mod Hands
 use Prim.Native.Nat.{ℕ}
 use mathlib.Core.Bool.{cond}
 use mathlib.Core.List.{List}

@@ -61,7 +61,7 @@ unfoldable pub Hands : List ℕ → List ℕ → Seeks → Type 0
 Hands t x r = ((f : Refusal) × (r .answer ≡ Refused f)) ⊎ Belonging t x (r .cursor)
 
 -- where a visitor stays
-spotIn : Visit ℕ Sighted → Spot
+unfoldable pub spotIn : Visit ℕ Sighted → Spot
 spotIn (stay f) = f .spot
 spotIn (go st) = record { segment = 0; selector = 0; places = [] }
 
