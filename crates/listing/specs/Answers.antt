@@ -1,6 +1,7 @@
 -- What page answers, and what it leaves in the output, for every input (document 01, order: 1, 4, 11, 10). A page that gets lost keeps the
 -- records already written, and its refusal carries their count too; a refused page hands back the cursor that it was given. Assumes nothing.
 pub mod Code
+pub mod Hands
 use Prim.Native.Nat.{ℕ}
 use mathlib.Core.Bool.{cond}
 use mathlib.Core.List.{List}
