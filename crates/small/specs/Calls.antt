@@ -28,6 +28,16 @@ use Rattle.index.specs.Check.{afterScan, judgeIndex, framedIndex, afterTray, ch
 use Rattle.build.specs.declared.BuildAnswer.{BuildAnswer}
 use Rattle.build.specs.declared.BuildAnswer.the-variants.{Written, Refused as BuildRefused}
 use Rattle.build.specs.Build.{cuts, anchorOf, offsetsBytes, segmentBytes, segmentsBytes, indexBytes, indexSize, sizeFits, afterCheck, build, leaves}
+use Rattle.walk.specs.declared.calls.Seeks.{Seeks}
+use Rattle.walk.specs.declared.calls.SeekAnswer.{SeekAnswer}
+use Rattle.walk.specs.declared.calls.SeekAnswer.the-variants.{Found as SeekFound, End as SeekEnd, Refused as SeekRefused}
+use Rattle.walk.specs.declared.get.Gets.{Gets}
+use Rattle.walk.specs.declared.get.GetAnswer.{GetAnswer}
+use Rattle.walk.specs.declared.get.GetAnswer.the-variants.{Found as GetFound, Absent, Refused as GetRefused}
+use Rattle.walk.specs.Start.{probe, start}
+use Rattle.walk.specs.Walk.{loaded, named, walkSelectors, walkSegments}
+use Rattle.walk.specs.Reads.{recordBy, unmarked, endSpot, foundBy, seekVisit, seek, gotFrom, get}
+use Rattle.walk.specs.Answers.{cursorOf, seekTold, seekFramed, inFrames, seekAnswer, gotTold, getFramed, getAnswer}
 use Rattle.small.specs.Rows.{accepted}
 
 -- what a call gives: its answer as number and figure, and what it leaves in its output, if it has one
@@ -64,6 +74,24 @@ abbrev pub buildVerdict : BuildAnswer → Verdict
 buildVerdict (Written n) = accepted n
 buildVerdict (BuildRefused r) = verdictOf r
 
+-- seek's answer: 1 with run and place where it found a record, 0 at the end
+abbrev pub seekGiven : Seeks → Given
+seekGiven r = told (r .answer)
+  where
+    told : SeekAnswer → Given
+    told (SeekFound run place) = record { answer = accepted 1; output = run .0 ∷ place .0 ∷ [] }
+    told SeekEnd = gives (accepted 0)
+    told (SeekRefused r) = gives (verdictOf r)
+
+-- get's answer: 1 with the value where it found one, 0 where it did not
+abbrev pub getGiven : Gets → Given
+getGiven r = told (r .answer)
+  where
+    told : GetAnswer → Given
+    told GetFound = record { answer = accepted 1; output = r .value }
+    told Absent = gives (accepted 0)
+    told (GetRefused r) = gives (verdictOf r)
+
 -- check tray
 unfoldable pub checks : List (List Record) → Given
 unfolding trayBytes countsBytes runsBytes recordsBytes recordBytes bytesOf
@@ -85,3 +113,13 @@ unfolding checks
 built runs d =
     let a = build (trayBytes runs) d (length room) in
     record { answer = buildVerdict a; output = leaves (trayBytes runs) d room a }
+
+-- seek and get of a key, through an index that is given by its segments
+unfoldable pub sought : List (List Record) → ℕ → List Segment → ℕ → Given
+unfolding judged listed
+    seekAnswer inFrames seekFramed seekTold seek start probe walkSegments walkSelectors loaded named seekVisit recordBy unmarked foundBy endSpot cursorOf
+sought runs d ss key = seekGiven (seekAnswer (trayBytes runs) (bytesOfIndex (length runs) d ss) (bytesOf 8 key))
+
+unfoldable pub gotten : List (List Record) → ℕ → List Segment → ℕ → Given
+unfolding sought getAnswer getFramed gotTold get gotFrom
+gotten runs d ss key = getGiven (getAnswer (trayBytes runs) (bytesOfIndex (length runs) d ss) (bytesOf 8 key))

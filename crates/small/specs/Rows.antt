@@ -1,5 +1,5 @@
 -- The table of document 01, "Small trays to prove", as data: a row each, with the runs, D, and what the row says of them. Numbers stand for
--- keys. `Table` has the statement. Not here: rows j and k, which are about folds, and what rows a and e say of get and seek. Assumes nothing.
+-- keys. `Table` has the statement. Not here: rows j and k, which are about folds. Assumes nothing.
 use Prim.Native.Nat.{ℕ}
 use mathlib.Core.List.{List, [], _∷_}
 use Rattle.refusal.specs.Table.{told}
@@ -30,6 +30,10 @@ pub data Result : Type 0 where
   build-refused : Verdict → Result
   -- check index gives this answer for these segments
   judges : List Segment → Verdict → Result
+  -- through these segments a seek of the key comes to the end,
+  seek-ends : List Segment → ℕ → Result
+  -- and a get of the key finds nothing
+  get-absent : List Segment → ℕ → Result
 
 -- the runs, D, and what is said of them
 pub record Row : Type 0 where
@@ -43,7 +47,7 @@ row runs size results = record { runs = runs; size = size; results = results }
 
 -- no record, no segment
 abbrev pub row-a : Row
-row-a = row ([] ∷ [] ∷ []) 2 (builds [] ∷ [])
+row-a = row ([] ∷ [] ∷ []) 2 (builds [] ∷ seek-ends [] 0 ∷ [])
 
 -- two versions fill a segment
 abbrev pub row-b : Row
@@ -64,8 +68,11 @@ row-d =
     (judges (segment 1 (0 ∷ 0 ∷ []) (0x00 ∷ 0x00 ∷ []) ∷ segment 3 (2 ∷ 0 ∷ []) (0x81 ∷ 0x3f ∷ []) ∷ []) (told 5 0) ∷ [])
 
 -- below a gone record the older live one is old
+abbrev segments-e : List Segment
+segments-e = segment 5 (0 ∷ 0 ∷ []) (0x40 ∷ 0x81 ∷ []) ∷ []
+
 abbrev pub row-e : Row
-row-e = row ((gone 5 ∷ []) ∷ (live 5 ∷ []) ∷ []) 2 (builds (segment 5 (0 ∷ 0 ∷ []) (0x40 ∷ 0x81 ∷ []) ∷ []) ∷ [])
+row-e = row ((gone 5 ∷ []) ∷ (live 5 ∷ []) ∷ []) 2 (builds segments-e ∷ get-absent segments-e 5 ∷ seek-ends segments-e 4 ∷ [])
 
 -- gone, old or not
 abbrev pub row-f : Row

@@ -5,15 +5,17 @@ use mathlib.Core.List.{List, [], _∷_, _++_, map}
 use lib.ListN.{length, drop}
 use Rattle.theory.specs.Pack.{joined}
 use Rattle.tray.specs.Meaning.{total}
-use Rattle.small.specs.Rows.{accepted, Result, builds, build-refused, judges, Row, table}
-use Rattle.small.specs.Calls.{Given, gives, room, bytesOfIndex, checks, judged, built}
+use Rattle.small.specs.Rows.{accepted, Result, builds, build-refused, judges, seek-ends, get-absent, Row, table}
+use Rattle.small.specs.Calls.{Given, gives, room, bytesOfIndex, checks, judged, built, sought, gotten}
 
 -- the calls that a result speaks of
 pub asked : Row → Result → List Given
-unfolding built judged
+unfolding built judged sought gotten
 asked r (builds ss) = built (r .runs) (r .size) ∷ judged (r .runs) (r .size) ss ∷ []
 asked r (build-refused v) = built (r .runs) (r .size) ∷ []
 asked r (judges ss v) = judged (r .runs) (r .size) ss ∷ []
+asked r (seek-ends ss key) = sought (r .runs) (r .size) ss key ∷ []
+asked r (get-absent ss key) = gotten (r .runs) (r .size) ss key ∷ []
 
 -- and what it says of them
 pub said : Row → Result → List Given
@@ -23,6 +25,8 @@ said r (builds ss) =
     record { answer = accepted (length x); output = x ++ drop (length x) room } ∷ gives (accepted (length ss)) ∷ []
 said r (build-refused v) = record { answer = v; output = room } ∷ []
 said r (judges ss v) = gives v ∷ []
+said r (seek-ends ss key) = gives (accepted 0) ∷ []
+said r (get-absent ss key) = gives (accepted 0) ∷ []
 
 -- what the calls give for a row, check tray first
 pub found : Row → List Given
