@@ -1,6 +1,7 @@
 -- What the functions of fold promise each other: how far each run has been read, the merge of what is left, and the records that are kept.
 -- The laws stand below. Assumes nothing.
 pub mod Left
+pub mod Start
 pub mod Step
 use Prim.Native.Nat.{ℕ}
 use mathlib.Core.List.{List, [], _∷_}
