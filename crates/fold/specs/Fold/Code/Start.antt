@@ -111,8 +111,12 @@ merged-short : (n i : ℕ) (f : ℕ → List Record) → ((r : ℕ) → i ≤ r 
 unfolding merged listed
 merged-short zero i f h = omega arith
 merged-short (suc n) i f h =
-    omega (arith, over-short (f i) (merged keyOf (sameKey keyOf) (listed n (suc i) f)), h i (omega arith) (omega arith),
-    merged-short n (suc i) f (λ r l u. h r (omega arith) (omega arith)))
+    omega (
+      arith,
+      over-short (f i) (merged keyOf (sameKey keyOf) (listed n (suc i) f)),
+      h i (omega arith) (omega arith),
+      merged-short n (suc i) f (λ r l u. h r (omega arith) (omega arith)),
+    )
 
 pub merge-short : {t : List ℕ} (places : List ℕ) → Framed t → length (mergeLeft t places) ≤ 258048
 unfolding mergeLeft leftOf
