@@ -1,5 +1,6 @@
 // Folding neighbouring runs into one (document 01, "Folding").
 pub mod merge;
+pub mod write;
 
 use refusal::Refusal;
 

@@ -2,14 +2,17 @@
 -- The laws stand below. Assumes nothing.
 pub mod Keeping
 pub mod Left
+pub mod Parts
 pub mod Start
 pub mod Step
-use Prim.Native.Nat.{ℕ, _+_, _*_, _≤_, _<_}
+pub mod Writes
+use Prim.Native.Nat.{ℕ, suc, _+_, _-_, _*_, _≤_, _<_}
 use mathlib.Core.Path.{_≡_}
 use mathlib.Core.Bool.{Bool, true, false, cond}
-use mathlib.Core.List.{List, [], _∷_, map}
+use mathlib.Core.List.{List, [], _∷_, _++_, map}
 use lib.ListN.{length, getD, take, drop, set}
 use lib.Dec.{ltb}
+use Rattle.number.specs.Big.{bytesOf}
 use Rattle.theory.specs.Rising.{All}
 use Rattle.theory.specs.Records.{Record}
 use Rattle.theory.specs.Hiding.{sameKey}
@@ -19,6 +22,7 @@ use Rattle.tray.specs.declared.frame.TrayFrame.{TrayFrame}
 use Rattle.tray.specs.Frame.{runCount, startOf, Opened}
 use Rattle.tray.specs.Run.{recordFrom}
 use Rattle.tray.specs.Check.{Sound}
+use Rattle.tray.specs.Meaning.{recordsBytes}
 use Rattle.tray.specs.Meaning.Laws.{runIn}
 use Rattle.index.specs.Scan.{raise}
 use Rattle.build.specs.Build.Code.{drawn, LeastKey}
@@ -71,3 +75,16 @@ pub record Folding (t : List ℕ) (a b : ℕ) (f : TrayFrame) : Type 0 where
   pub sound : Sound t
   pub order : a ≤ b
   pub within : b < runCount t
+
+-- the part of a list from place x up to place y
+abbrev pub stretch : ℕ → ℕ → List ℕ → List ℕ
+stretch x y s = take (y - x) (drop x s)
+
+-- the header and the counts of a tray whose runs a to b are one of n records
+unfoldable pub headBytes : List ℕ → ℕ → ℕ → ℕ → List ℕ
+headBytes t a b n =
+    ((runCount t - (b - a)) ∷ 0 ∷ 0 ∷ 0 ∷ []) ++ (stretch 4 (4 + 2 * a) t ++ (bytesOf 2 n ++ stretch (6 + 2 * b) (4 + 2 * runCount t) t))
+
+-- the bytes up to place y, the records w, and the bytes from place z on
+unfoldable pub bodyBytes : List ℕ → ℕ → ℕ → ℕ → List Record → List ℕ
+bodyBytes t x y z w = stretch x y t ++ (recordsBytes w ++ stretch z (length t) t)

@@ -158,6 +158,14 @@ unfolding recordsBefore
 before-low f zero l = omega arith
 before-low f (suc r) l = omega (arith, before-low f r (omega arith), f .counts r l)
 
+-- where the last run ends, at most
+pub start-low : {t : List ℕ} → Framed t → startOf t (runCount t) ≤ 6451330
+unfolding startOf
+start-low {t} f =
+    let few : runCount t ≤ 63 = f .most-runs in
+    let before : recordsBefore t (runCount t) ≤ 4096 * runCount t = before-low f (runCount t) (omega arith) in
+    omega arith
+
 -- where run r's next record stands, as the code computes it
 pub record StandsAt (t places : List ℕ) (r at : ℕ) : Type 0 where
   pub is : at ≡ nextAt t places r
