@@ -1,5 +1,6 @@
 -- What the functions of fold promise each other: how far each run has been read, the merge of what is left, and the records that are kept.
 -- The laws stand below. Assumes nothing.
+pub mod Answers
 pub mod Keeping
 pub mod Left
 pub mod Parts
@@ -11,8 +12,9 @@ use mathlib.Core.Path.{_≡_}
 use mathlib.Core.Bool.{Bool, true, false, cond}
 use mathlib.Core.List.{List, [], _∷_, _++_, map}
 use lib.ListN.{length, getD, take, drop, set}
-use lib.Dec.{ltb}
+use lib.Dec.{leb, ltb}
 use Rattle.number.specs.Big.{bytesOf}
+use Rattle.refusal.specs.declared.Refusal.the-variants.{Room, RunLength}
 use Rattle.theory.specs.Rising.{All}
 use Rattle.theory.specs.Records.{Record}
 use Rattle.theory.specs.Hiding.{sameKey}
@@ -26,7 +28,9 @@ use Rattle.tray.specs.Meaning.{recordsBytes}
 use Rattle.tray.specs.Meaning.Laws.{runIn}
 use Rattle.index.specs.Scan.{raise}
 use Rattle.build.specs.Build.Code.{drawn, LeastKey}
-use Rattle.fold.specs.Fold.{keyOf}
+use Rattle.fold.specs.declared.FoldAnswer.{FoldAnswer}
+use Rattle.fold.specs.declared.FoldAnswer.the-variants.{Written, Refused}
+use Rattle.fold.specs.Fold.{keyOf, foldedRun, foldSize}
 
 -- what is left of run r
 unfoldable pub leftOf : List ℕ → List ℕ → ℕ → List Record
@@ -88,3 +92,9 @@ headBytes t a b n =
 -- the bytes up to place y, the records w, and the bytes from place z on
 unfoldable pub bodyBytes : List ℕ → ℕ → ℕ → ℕ → List Record → List ℕ
 bodyBytes t x y z w = stretch x y t ++ (recordsBytes w ++ stretch z (length t) t)
+
+-- the answer for a sound tray and bounds that hold: 12, then 7
+unfoldable pub soundAnswer : ℕ → ℕ → List (List Record) → ℕ → FoldAnswer
+soundAnswer a b t room =
+    cond (leb (length (foldedRun a b t)) 4096) (cond (leb (foldSize a b t) room) (Written (foldSize a b t)) (Refused (Room (foldSize a b t))))
+    (Refused (RunLength (length (foldedRun a b t))))
