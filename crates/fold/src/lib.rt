@@ -1,10 +1,9 @@
 // Folding neighbouring runs into one (document 01, "Folding").
-pub mod merge;
 pub mod write;
 
-use crate::merge::merge_runs;
 use crate::write::copy;
 use crate::write::write_tray;
+use folding::merge_runs;
 use number::wide_size;
 use refusal::Refusal;
 use tray::RunNo;
@@ -16,8 +15,9 @@ ghost use mathlib.Core.Path.{_≡_};
 ghost use Prim.Native.Nat.{_≤_};
 ghost use lib.ListN.{length};
 ghost use Rattle.tray.specs.Meaning.{runsOf};
+ghost use Rattle.folding.specs.Folding.{Folding};
 ghost use Rattle.fold.specs.Fold.{foldSize, foldedRun, foldAnswer, leaves};
-ghost use Rattle.fold.specs.Fold.Code.{Folding, soundAnswer};
+ghost use Rattle.fold.specs.Fold.Code.{soundAnswer};
 
 // How many bytes were written, or why none were.
 pub enum FoldAnswer {

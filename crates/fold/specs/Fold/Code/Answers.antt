@@ -1,6 +1,7 @@
 -- What the code of fold needs of its answers: each law is a way out of a function.
 --     answer-long, answer-fits, answer-short      the answers for a sound tray and bounds that hold
 --     leaves-tray, leaves-same                    what is left in the output
+--     noted-folded                                the merge of the runs a to b is the folded run
 --     one-run                                     one run folded is the tray as it is
 --     answer-frame, -low, -high, -refused, -sound the answers of fold
 --     folding-is                                  what a tray that was checked is
@@ -35,7 +36,8 @@ use Rattle.fold.specs.declared.FoldAnswer.{FoldAnswer}
 use Rattle.fold.specs.declared.FoldAnswer.the-variants.{Written, Refused}
 use Rattle.fold.specs.Fold.{keyOf, foldedRun, foldedRuns, foldBytes, foldSize, boundsHold, afterCheck, foldAnswer, leaves}
 use Rattle.fold.specs.Fold.Laws.{keyRule, length-foldBytes, fold-copies}
-use Rattle.fold.specs.Fold.Code.{Folding, soundAnswer}
+use Rattle.folding.specs.Folding.{Folding, Noted, mergedRun}
+use Rattle.fold.specs.Fold.Code.{soundAnswer}
 
 module _ (a b : ℕ) (t : List (List Record)) (room : ℕ) where
   pub answer-long : {n : ℕ} → n ≡ length (foldedRun a b t) → 4096 < n → Refused (RunLength n) ≡ soundAnswer a b t room
@@ -58,6 +60,11 @@ module _ (t out : List ℕ) (a b : ℕ) where
   pub leaves-same : (r : Refusal) → out ≡ leaves t a b out (Refused r)
   unfolding leaves
   leaves-same r = refl
+
+-- the merge of the runs a to b is the folded run
+pub noted-folded : (a b : ℕ) (rs : List (List Record)) {t kept : List ℕ} {n : ℕ} → Noted t (mergedRun a b rs) kept n → Noted t (foldedRun a b rs) kept n
+unfolding mergedRun foldedRun
+noted-folded a b rs w = w
 
 -- one run folded is the tray
 pub record OneRun (t : List ℕ) (a b : ℕ) : Type 0 where

@@ -28,7 +28,7 @@ use Rattle.tray.specs.Meaning.Write.{records-back, bytes-run}
 use Rattle.fold.specs.Fold.{keyOf, foldedRun, foldedRuns, foldBytes, foldSize}
 use Rattle.fold.specs.Fold.Laws.{length-foldBytes}
 use Rattle.fold.specs.Fold.Code.{stretch, headBytes, bodyBytes}
-use Rattle.fold.specs.Fold.Code.Start.{listed-part, listed-drop}
+use Rattle.folding.specs.Folding.Start.{listed-part, listed-drop}
 
 -- what stands between two places
 part-is : (x y : ℕ) (xs t : List ℕ) → x ≤ y → y ≤ length t → xs ++ drop y t ≡ drop x t → xs ≡ stretch x y t

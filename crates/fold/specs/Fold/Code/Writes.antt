@@ -28,8 +28,9 @@ use Rattle.tray.specs.Meaning.Read.{length-recordBytes, length-recordsBytes}
 use Rattle.build.specs.Build.Code.Writes.{put-nil, put-cons}
 use Rattle.build.specs.Build.Code.Versions.{group-next}
 use Rattle.fold.specs.Fold.{foldedRun, foldBytes, foldSize}
-use Rattle.fold.specs.Fold.Code.{stretch, headBytes, bodyBytes, Folding}
-use Rattle.fold.specs.Fold.Code.Keeping.{start-low}
+use Rattle.fold.specs.Fold.Code.{stretch, headBytes, bodyBytes}
+use Rattle.folding.specs.Folding.{Folding}
+use Rattle.folding.specs.Folding.Keeping.{start-low}
 use Rattle.fold.specs.Fold.Code.Parts.{fold-parts, size-parts, length-head, length-stretch}
 
 -- the bytes from place i of a part on have still to be copied

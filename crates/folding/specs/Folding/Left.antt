@@ -31,9 +31,9 @@ use Rattle.index.specs.Scan.{nextIn, hasNext, raise}
 use Rattle.build.specs.Build.Code.{highest, keyOr, nextKey, drawn, LeastKey}
 use Rattle.build.specs.Build.Code.Draws.{drawn-rises, drawn-mem, mem-drawn}
 use Rattle.build.specs.Build.Code.Merge.{nextKey-has}
-use Rattle.fold.specs.Fold.{keyOf}
-use Rattle.fold.specs.Fold.Code.{leftOf, mergeLeft, raiseAll}
-use Rattle.fold.specs.Fold.Code.Step.{Above, Turn, took, past, turn-some, firstOf, firstOf-is, merged-turn, merged-nils}
+use Rattle.index.specs.Rules.{keyOf}
+use Rattle.folding.specs.Folding.{leftOf, mergeLeft, raiseAll}
+use Rattle.folding.specs.Folding.Step.{Above, Turn, took, past, turn-some, firstOf, firstOf-is, merged-turn, merged-nils}
 
 pub length-raiseAll : (rs places : List ℕ) → length (raiseAll rs places) ≡ length places
 unfolding raiseAll raise

@@ -1,4 +1,4 @@
--- `fold::merge::move_on` meets its contract: the place is raised and the next key kept. `run-cut` says that the stretch handed on is the run.
+-- `folding::move_on` meets its contract: the place is raised and the next key kept. `run-cut` says that the stretch handed on is the run.
 -- Assumes nothing.
 use Rattle.build.specs.Build.Code.Versions.{version-low, took}
 use Rattle.build.specs.Build.Code.Heads.{run-cut}
@@ -6,8 +6,8 @@ use lib.ListN.{length-set}
 use mathlib.Core.Path.{refl}
 use native.Mathlib.Omega.{arith}
 use borrow.Author.Needs.{needs}
-use Rattle.fold.proofs.merge.move_on.Statement.{statement}
-use Rattle.fold.proofs.merge.move_on.Tie as tie
+use Rattle.folding.proofs.move_on.Statement.{statement}
+use Rattle.folding.proofs.move_on.Tie as tie
 
 wide-size-requires : tie.Need-wide-size-requires
 wide-size-requires c κs = search needs

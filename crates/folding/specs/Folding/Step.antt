@@ -26,7 +26,7 @@ use Rattle.theory.specs.Listed.{listed}
 use Rattle.theory.specs.Merge.{hidden, over, merged}
 use Rattle.theory.specs.Merge.Hidden.{hidden-none, hidden-some}
 use Rattle.theory.specs.Merge.Laws.{over-mem, over-nil-left}
-use Rattle.fold.specs.Fold.{keyOf}
+use Rattle.index.specs.Rules.{keyOf}
 
 -- all of these records are above a key
 abbrev pub Above : ℕ → List Record → Type 0

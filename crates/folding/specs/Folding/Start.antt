@@ -25,10 +25,10 @@ use Rattle.theory.specs.Merge.Laws.{over-nil-left, merged-front}
 use Rattle.tray.specs.Frame.{runCount, countOf, Framed}
 use Rattle.tray.specs.Meaning.{runsOf}
 use Rattle.tray.specs.Meaning.Laws.{runIn, length-runOf}
-use Rattle.fold.specs.Fold.{keyOf, foldedRun}
-use Rattle.fold.specs.Fold.Code.{leftOf, mergeLeft}
-use Rattle.fold.specs.Fold.Code.Left.{left-none}
-use Rattle.fold.specs.Fold.Code.Step.{merged-nils}
+use Rattle.index.specs.Rules.{keyOf}
+use Rattle.folding.specs.Folding.{mergedRun, leftOf, mergeLeft}
+use Rattle.folding.specs.Folding.Left.{left-none}
+use Rattle.folding.specs.Folding.Step.{merged-nils}
 
 -- numbers in a row, in two parts
 pub listed-append : {A : Type 0} (n k i : ℕ) (f : ℕ → A) → listed (n + k) i f ≡ listed n i f ++ listed k (i + n) f
@@ -71,8 +71,8 @@ pub record Begins (t places : List ℕ) (a b : ℕ) : Type 0 where
   pub inside : (r : ℕ) → a ≤ r → r ≤ b → getD places r 0 ≡ 0
   pub outside : (r : ℕ) → r < runCount t → (r < a) ⊎ (b < r) → countOf t r ≤ getD places r 0
 
-pub merge-begins : {t places : List ℕ} {a b : ℕ} → Begins t places a b → a ≤ b → b < runCount t → mergeLeft t places ≡ foldedRun a b (runsOf t)
-unfolding mergeLeft foldedRun runsOf leftOf
+pub merge-begins : {t places : List ℕ} {a b : ℕ} → Begins t places a b → a ≤ b → b < runCount t → mergeLeft t places ≡ mergedRun a b (runsOf t)
+unfolding mergeLeft mergedRun runsOf leftOf
 merge-begins {t} {places} {a} {b} w l k =
     let n = suc b - a in let m = runCount t - suc b in let f = leftOf t places in
     let whole : a + (n + m) ≡ runCount t = omega arith in

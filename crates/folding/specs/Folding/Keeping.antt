@@ -34,10 +34,9 @@ use Rattle.index.specs.Scan.Code.{Reading}
 use Rattle.build.specs.Build.Code.{Caching, Least, Drew, keyedLeft, Takeable, more, drawn, LeastKey}
 use Rattle.build.specs.Build.Code.Draws.{drawn-mem, drawn-is, drawn-number, least-key}
 use Rattle.build.specs.Build.Code.Versions.{group-next}
-use Rattle.fold.specs.Fold.{foldedRun}
-use Rattle.fold.specs.Fold.Code.{mergeLeft, raiseAll, nextAt, noted, Skips, Keeps, ends, keeps, Noted, Folding}
-use Rattle.fold.specs.Fold.Code.Left.{merge-step, merge-end, length-raiseAll}
-use Rattle.fold.specs.Fold.Code.Start.{Begins, merge-begins}
+use Rattle.folding.specs.Folding.{mergedRun, mergeLeft, raiseAll, nextAt, noted, Skips, Keeps, ends, keeps, Noted, Folding}
+use Rattle.folding.specs.Folding.Left.{merge-step, merge-end, length-raiseAll}
+use Rattle.folding.specs.Folding.Start.{Begins, merge-begins}
 
 -- the runs from `from` up to `to` read to their ends, one by one
 pub skips-none : {counts places : List ℕ} {from : ℕ} → length places ≡ 63 → Skips counts places from from places
@@ -283,11 +282,11 @@ module _ {t : List ℕ} {a b : ℕ} {f : TrayFrame} (g : Folding t a b f) where
       record { at = o .at; few = o .at .few; room-counts = o .room; room-places = e; counts-are = o .counts }
 
   pub folding-merge : {i j k : ℕ} {places₁ places : List ℕ} → i ≡ a → j ≡ b → k ≡ f .runs
-      → Skips (f .counts) (replicate 63 0) 0 i places₁ → Skips (f .counts) places₁ (j + 1) k places → mergeLeft t places ≡ foldedRun a b (runsOf t)
+      → Skips (f .counts) (replicate 63 0) 0 i places₁ → Skips (f .counts) places₁ (j + 1) k places → mergeLeft t places ≡ mergedRun a b (runsOf t)
   folding-merge {i} {j} {k} {places₁} {places} p q r v w =
       let before : Skips (f .counts) (replicate 63 0) 0 a places₁ = subst (λ (n : ℕ). Skips (f .counts) (replicate 63 0) 0 n places₁) p v in
       let behind : Skips (f .counts) places₁ (b + 1) (f .runs) places = subst₂ (λ (n m : ℕ). Skips (f .counts) places₁ (n + 1) m places) q r w in
       merge-begins (begins (zeros 63) (g .opened .counts) (g .opened .runs) (g .order) before behind) (g .order) (g .within)
 
-  pub folding-noted : {w : List Record} {kept : List ℕ} {n : ℕ} → w ≡ foldedRun a b (runsOf t) → Noted t w kept n → Noted t (foldedRun a b (runsOf t)) kept n
+  pub folding-noted : {w : List Record} {kept : List ℕ} {n : ℕ} → w ≡ mergedRun a b (runsOf t) → Noted t w kept n → Noted t (mergedRun a b (runsOf t)) kept n
   folding-noted {w} {kept} {n} e k = subst (λ (v : List Record). Noted t v kept n) e k

@@ -1,10 +1,10 @@
--- `fold::merge::merge_runs` meets its contract: with the runs outside a to b at their ends, the merge of what is left is the folded run.
+-- `folding::merge_runs` meets its contract: with the runs outside a to b at their ends, the merge of what is left is the folded run.
 -- Assumes nothing.
-use Rattle.fold.specs.Fold.Code.Keeping.{folding-reading, folding-merge, folding-noted}
+use Rattle.folding.specs.Folding.Keeping.{folding-reading, folding-merge, folding-noted}
 use Rattle.build.specs.Build.Code.Loops.{padded-none}
 use borrow.Author.Needs.{needs}
-use Rattle.fold.proofs.merge.merge_runs.Statement.{statement}
-use Rattle.fold.proofs.merge.merge_runs.Tie as tie
+use Rattle.folding.proofs.merge_runs.Statement.{statement}
+use Rattle.folding.proofs.merge_runs.Tie as tie
 
 slice-aggregate-skip-runs : tie.Need-slice-aggregate-skip-runs
 slice-aggregate-skip-runs c = search needs

@@ -1,14 +1,14 @@
--- `fold::merge::keep_next` meets its contract: of the runs that are drawn the first one's record is noted, and all of them move on.
+-- `folding::keep_next` meets its contract: of the runs that are drawn the first one's record is noted, and all of them move on.
 -- Assumes nothing.
 use mathlib.Core.Path.{refl}
-use Rattle.fold.specs.Fold.Code.Keeping.{keeps-one, keeps-none, first-has, stands-at}
+use Rattle.folding.specs.Folding.Keeping.{keeps-one, keeps-none, first-has, stands-at}
 use Rattle.build.specs.Build.Code.Draws.{padded-at, left-of, takeable-group}
 use Rattle.build.specs.Build.Code.Runs.{drew-low}
 use mathlib.Core.Path.{refl, sym, ap, _∙_}
 use native.Mathlib.Omega.{arith}
 use borrow.Author.Needs.{needs}
-use Rattle.fold.proofs.merge.keep_next.Statement.{statement}
-use Rattle.fold.proofs.merge.keep_next.Tie as tie
+use Rattle.folding.proofs.keep_next.Statement.{statement}
+use Rattle.folding.proofs.keep_next.Tie as tie
 
 least-requires : tie.Need-least-requires
 least-requires c κs = padded-at (c .before .before .before .before .before .before .before .pre .0) (c .before .before .before .before .before .before .before .pre .1 .0)

@@ -1,12 +1,12 @@
--- `fold::merge::skip_runs` meets its contract. Invariant: the runs so far are read to their ends. Measure: the runs left. Assumes nothing.
-use Rattle.fold.specs.Fold.Code.Keeping.{skips-none, skips-more, skips-all}
-use Rattle.fold.specs.Fold.Code.{Skips}
+-- `folding::skip_runs` meets its contract. Invariant: the runs so far are read to their ends. Measure: the runs left. Assumes nothing.
+use Rattle.folding.specs.Folding.Keeping.{skips-none, skips-more, skips-all}
+use Rattle.folding.specs.Folding.{Skips}
 use Prim.Native.Nat.{_-_, _≤_}
 use lib.ListN.{length-set}
 use native.Mathlib.Omega.{arith}
 use borrow.Author.Needs.{needs}
-use Rattle.fold.proofs.merge.skip_runs.Statement.{statement}
-use Rattle.fold.proofs.merge.skip_runs.Tie as tie
+use Rattle.folding.proofs.skip_runs.Statement.{statement}
+use Rattle.folding.proofs.skip_runs.Tie as tie
 
 abbrev Inv-loop : tie.InvT-loop
 Inv-loop counts from to places₀ i₀ places i = (from ≤ i) × (i ≤ to) × Skips counts places₀ from i places

@@ -16,8 +16,7 @@ ghost use Rattle.tray.specs.Check.{Sound};
 ghost use Rattle.tray.specs.Meaning.{runsOf};
 ghost use Rattle.index.specs.Scan.{raise};
 ghost use Rattle.build.specs.Build.Code.{Caching, Takeable};
-ghost use Rattle.fold.specs.Fold.{foldedRun};
-ghost use Rattle.fold.specs.Fold.Code.{mergeLeft, raiseAll, noted, Skips, Keeps, Noted, Folding};
+ghost use Rattle.folding.specs.Folding.{mergedRun, mergeLeft, raiseAll, noted, Skips, Keeps, Noted, Folding};
 
 // The runs from one up to another read to their ends.
 fn skip_runs(counts: &[u16], from: usize, to: usize, places: &mut [u16])
@@ -142,7 +141,7 @@ fn keep_all(
 // The records of the runs a to b made one: how many.
 pub fn merge_runs(t: &[u8], f: TrayFrame, a: RunNo, b: RunNo, kept: &mut [usize]) -> usize
     requires { ⌜ Folding (now t) (a .0) (b .0) f × (length (now kept) ≡ 4096) ⌝ }
-    ensures { λ n. ⌜ Noted (now (t .entry)) (foldedRun (a .0) (b .0) (runsOf (now (t .entry)))) (now (kept .exit)) n ⌝ }
+    ensures { λ n. ⌜ Noted (now (t .entry)) (mergedRun (a .0) (b .0) (runsOf (now (t .entry)))) (now (kept .exit)) n ⌝ }
 {
     let h = f.runs;
     let counts = f.counts;

@@ -1,9 +1,9 @@
--- `fold::merge::note` meets its contract: the test that was taken is the one of the definition. Assumes nothing.
-use Rattle.fold.specs.Fold.Code.Keeping.{noted-room, noted-full}
+-- `folding::note` meets its contract: the test that was taken is the one of the definition. Assumes nothing.
+use Rattle.folding.specs.Folding.Keeping.{noted-room, noted-full}
 use native.Mathlib.Omega.{arith}
 use borrow.Author.Needs.{needs}
-use Rattle.fold.proofs.merge.note.Statement.{statement}
-use Rattle.fold.proofs.merge.note.Tie as tie
+use Rattle.folding.proofs.note.Statement.{statement}
+use Rattle.folding.proofs.note.Tie as tie
 
 mul-kept : tie.Need-mul-kept
 mul-kept c = search needs

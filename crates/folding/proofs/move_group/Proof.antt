@@ -1,10 +1,10 @@
--- `fold::merge::move_group` meets its contract. Invariant: what is left of the group, moved from here on, comes to what all of it comes to.
+-- `folding::move_group` meets its contract. Invariant: what is left of the group, moved from here on, comes to what all of it comes to.
 -- Measure: the runs left. Assumes nothing.
-use Rattle.fold.specs.Fold.Code.Keeping.{Moving, moving-none, moving-head, moving-more, moving-all}
+use Rattle.folding.specs.Folding.Keeping.{Moving, moving-none, moving-head, moving-more, moving-all}
 use Prim.Native.Nat.{_-_}
 use native.Mathlib.Omega.{arith}
-use Rattle.fold.proofs.merge.move_group.Statement.{statement}
-use Rattle.fold.proofs.merge.move_group.Tie as tie
+use Rattle.folding.proofs.move_group.Statement.{statement}
+use Rattle.folding.proofs.move_group.Tie as tie
 
 abbrev Inv-loop : tie.InvT-loop
 Inv-loop t counts starts group n places₀ keys₀ j₀ places keys j = Moving t counts starts group n places₀ places keys j

@@ -1,17 +1,17 @@
--- `fold::merge::keep_all` meets its contract. Invariant: what has been noted and the merge of what is left are the merge from the start.
+-- `folding::keep_all` meets its contract. Invariant: what has been noted and the merge of what is left are the merge from the start.
 -- Measure: the length of the merge of what is left. Assumes nothing.
-use Rattle.fold.specs.Fold.Code.Start.{merge-short}
-use Rattle.fold.specs.Fold.Code.Keeping.{Merging, merging-none, merging-more, merging-end, merging-low}
+use Rattle.folding.specs.Folding.Start.{merge-short}
+use Rattle.folding.specs.Folding.Keeping.{Merging, merging-none, merging-more, merging-end, merging-low}
 use Rattle.build.specs.Build.Code.{Caching}
-use Rattle.fold.specs.Fold.Code.{mergeLeft}
+use Rattle.folding.specs.Folding.{mergeLeft}
 use Rattle.tray.specs.Meaning.Back.{fits-runs}
 use Rattle.number.proofs.Known.{bytes-known}
 use lib.ListN.{length}
 use mathlib.Core.Path.{refl}
 use native.Mathlib.Omega.{arith}
 use borrow.Author.Needs.{needs}
-use Rattle.fold.proofs.merge.keep_all.Statement.{statement}
-use Rattle.fold.proofs.merge.keep_all.Tie as tie
+use Rattle.folding.proofs.keep_all.Statement.{statement}
+use Rattle.folding.proofs.keep_all.Tie as tie
 
 abbrev Inv-loop : tie.InvT-loop
 Inv-loop t h counts starts places₀ keys₀ kept₀ n₀ places keys kept n = Caching t counts starts places keys × Merging t (mergeLeft t places₀) places kept n
