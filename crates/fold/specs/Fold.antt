@@ -3,6 +3,7 @@
 pub mod Answers
 mod Cases
 pub mod Chains
+pub mod Code
 pub mod Laws
 pub mod Leaves
 pub mod Nothing

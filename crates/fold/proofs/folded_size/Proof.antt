@@ -1,0 +1,92 @@
+-- `fold::folded_size` meets its contract: the length of each part, by the frame. Assumes nothing.
+use Rattle.fold.specs.Fold.Code.Trays.{laid-parts}
+use Rattle.number.proofs.Known.{bytes-known}
+use native.Mathlib.Omega.{arith}
+use borrow.Author.Needs.{needs}
+use Rattle.fold.proofs.folded_size.Statement.{statement}
+use Rattle.fold.proofs.folded_size.Tie as tie
+
+array-read-x : tie.Need-array-read-x
+array-read-x c = search needs
+
+wide-size-requires : tie.Need-wide-size-requires
+wide-size-requires c κs = search needs
+
+mul-y : tie.Need-mul-y
+mul-y c = search needs
+
+array-read-y : tie.Need-array-read-y
+array-read-y c = search needs
+
+wide-size-requires-2 : tie.Need-wide-size-requires-2
+wide-size-requires-2 c κs = search needs
+
+add-z : tie.Need-add-z
+add-z c = search needs
+
+mul-z : tie.Need-mul-z
+mul-z c = search needs
+
+array-read-z : tie.Need-array-read-z
+array-read-z c = search needs
+
+sub-wide-size : tie.Need-sub-wide-size
+sub-wide-size c = search needs
+
+sub-wide-size-2 : tie.Need-sub-wide-size-2
+sub-wide-size-2 c = search needs
+
+wide-size-requires-3 : tie.Need-wide-size-requires-3
+wide-size-requires-3 c κs = search needs
+
+mul-result : tie.Need-mul-result
+mul-result c = search needs
+
+add-result : tie.Need-add-result
+add-result c = search needs
+
+sub-result : tie.Need-sub-result
+sub-result c = let laid = laid-parts (c .before .before .before .before .before .pre .0) (bytes-known (c .before .before .before .before .before .args .t .now) (c .before .before .before .before .shared-slice-known .given)) (c .before .before .before .before .before .pre .2) (c .before .before .wide-size .ensures) (c .before .wide-size2 .ensures) in laid .up
+
+mul-result-2 : tie.Need-mul-result-2
+mul-result-2 c = search needs
+
+add-result-2 : tie.Need-add-result-2
+add-result-2 c = let laid = laid-parts (c .before .before .before .before .before .pre .0) (bytes-known (c .before .before .before .before .before .args .t .now) (c .before .before .before .before .shared-slice-known .given)) (c .before .before .before .before .before .pre .2) (c .before .before .wide-size .ensures) (c .before .wide-size2 .ensures) in omega (arith, laid .size, laid .low, c .before .before .before .before .before .pre .1, c .wide-size3 .ensures)
+
+sub-result-2 : tie.Need-sub-result-2
+sub-result-2 c = let laid = laid-parts (c .before .before .before .before .before .pre .0) (bytes-known (c .before .before .before .before .before .args .t .now) (c .before .before .before .before .shared-slice-known .given)) (c .before .before .before .before .before .pre .2) (c .before .before .wide-size .ensures) (c .before .wide-size2 .ensures) in laid .in-tray-2
+
+add-result-3 : tie.Need-add-result-3
+add-result-3 c = let laid = laid-parts (c .before .before .before .before .before .pre .0) (bytes-known (c .before .before .before .before .before .args .t .now) (c .before .before .before .before .shared-slice-known .given)) (c .before .before .before .before .before .pre .2) (c .before .before .wide-size .ensures) (c .before .wide-size2 .ensures) in omega (arith, laid .size, laid .low, c .before .before .before .before .before .pre .1, c .wide-size3 .ensures)
+
+add-result-4 : tie.Need-add-result-4
+add-result-4 c = let laid = laid-parts (c .before .before .before .before .before .pre .0) (bytes-known (c .before .before .before .before .before .args .t .now) (c .before .before .before .before .shared-slice-known .given)) (c .before .before .before .before .before .pre .2) (c .before .before .wide-size .ensures) (c .before .wide-size2 .ensures) in omega (arith, laid .size, laid .low, c .before .before .before .before .before .pre .1, c .wide-size3 .ensures)
+
+returns : tie.Need-returns
+returns c = let laid = laid-parts (c .before .before .before .before .before .pre .0) (bytes-known (c .before .before .before .before .before .args .t .now) (c .before .before .before .before .shared-slice-known .given)) (c .before .before .before .before .before .pre .2) (c .before .before .wide-size .ensures) (c .before .wide-size2 .ensures) in omega (arith, laid .size, c .wide-size3 .ensures)
+
+pub folded-size-spec : {M : Type 1} → statement M
+folded-size-spec =
+    tie.close
+    (tie.spec
+    array-read-x
+    wide-size-requires
+    mul-y
+    array-read-y
+    wide-size-requires-2
+    add-z
+    mul-z
+    array-read-z
+    sub-wide-size
+    sub-wide-size-2
+    wide-size-requires-3
+    mul-result
+    add-result
+    sub-result
+    mul-result-2
+    add-result-2
+    sub-result-2
+    add-result-3
+    add-result-4
+    returns)

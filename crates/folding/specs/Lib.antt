@@ -1,0 +1,2 @@
+-- The merge of some neighbouring runs of a tray.
+pub mod Folding
