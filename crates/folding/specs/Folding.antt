@@ -2,6 +2,8 @@
 -- the records that are noted. The laws stand below. Assumes nothing.
 pub mod Keeping
 pub mod Left
+pub mod Moves
+pub mod Raised
 pub mod Start
 pub mod Step
 use Prim.Native.Nat.{ℕ, suc, _+_, _-_, _*_, _≤_, _<_}

@@ -2,6 +2,7 @@
 -- Assumes nothing.
 pub mod Answers
 pub mod Parts
+pub mod Trays
 pub mod Writes
 use Prim.Native.Nat.{ℕ, _+_, _-_, _*_}
 use mathlib.Core.Bool.{cond}
@@ -18,17 +19,17 @@ use Rattle.fold.specs.declared.FoldAnswer.the-variants.{Written, Refused
 use Rattle.fold.specs.Fold.{foldedRun, foldSize}
 
 -- the part of a list from place x up to place y
-abbrev pub stretch : ℕ → ℕ → List ℕ → List ℕ
-stretch x y s = take (y - x) (drop x s)
+abbrev pub between : ℕ → ℕ → List ℕ → List ℕ
+between x y s = take (y - x) (drop x s)
 
 -- the header and the counts of a tray whose runs a to b are one of n records
 unfoldable pub headBytes : List ℕ → ℕ → ℕ → ℕ → List ℕ
 headBytes t a b n =
-    ((runCount t - (b - a)) ∷ 0 ∷ 0 ∷ 0 ∷ []) ++ (stretch 4 (4 + 2 * a) t ++ (bytesOf 2 n ++ stretch (6 + 2 * b) (4 + 2 * runCount t) t))
+    ((runCount t - (b - a)) ∷ 0 ∷ 0 ∷ 0 ∷ []) ++ (between 4 (4 + 2 * a) t ++ (bytesOf 2 n ++ between (6 + 2 * b) (4 + 2 * runCount t) t))
 
 -- the bytes up to place y, the records w, and the bytes from place z on
 unfoldable pub bodyBytes : List ℕ → ℕ → ℕ → ℕ → List Record → List ℕ
-bodyBytes t x y z w = stretch x y t ++ (recordsBytes w ++ stretch z (length t) t)
+bodyBytes t x y z w = between x y t ++ (recordsBytes w ++ between z (length t) t)
 
 -- the answer for a sound tray and bounds that hold: 12, then 7
 unfoldable pub soundAnswer : ℕ → ℕ → List (List Record) → ℕ → FoldAnswer

@@ -4,7 +4,7 @@ use mathlib.Core.Path.{refl}
 use Rattle.folding.specs.Folding.Keeping.{keeps-one, keeps-none, first-has, stands-at}
 use Rattle.build.specs.Build.Code.Draws.{padded-at, left-of, takeable-group}
 use Rattle.build.specs.Build.Code.Runs.{drew-low}
-use mathlib.Core.Path.{refl, sym, ap, _∙_}
+use mathlib.Core.Path.{refl}
 use native.Mathlib.Omega.{arith}
 use borrow.Author.Needs.{needs}
 use Rattle.folding.proofs.keep_next.Statement.{statement}

@@ -1,6 +1,6 @@
 -- `folding::merge_runs` meets its contract: with the runs outside a to b at their ends, the merge of what is left is the folded run.
 -- Assumes nothing.
-use Rattle.folding.specs.Folding.Keeping.{folding-reading, folding-merge, folding-noted}
+use Rattle.folding.specs.Folding.Moves.{folding-reading, folding-merge, folding-noted}
 use Rattle.build.specs.Build.Code.Loops.{padded-none}
 use borrow.Author.Needs.{needs}
 use Rattle.folding.proofs.merge_runs.Statement.{statement}

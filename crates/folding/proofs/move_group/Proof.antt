@@ -1,6 +1,6 @@
 -- `folding::move_group` meets its contract. Invariant: what is left of the group, moved from here on, comes to what all of it comes to.
 -- Measure: the runs left. Assumes nothing.
-use Rattle.folding.specs.Folding.Keeping.{Moving, moving-none, moving-head, moving-more, moving-all}
+use Rattle.folding.specs.Folding.Moves.{Moving, moving-none, moving-head, moving-more, moving-all}
 use Prim.Native.Nat.{_-_}
 use native.Mathlib.Omega.{arith}
 use Rattle.folding.proofs.move_group.Statement.{statement}

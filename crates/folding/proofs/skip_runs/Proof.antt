@@ -1,8 +1,7 @@
 -- `folding::skip_runs` meets its contract. Invariant: the runs so far are read to their ends. Measure: the runs left. Assumes nothing.
-use Rattle.folding.specs.Folding.Keeping.{skips-none, skips-more, skips-all}
+use Rattle.folding.specs.Folding.Moves.{skips-none, skips-more, skips-all}
 use Rattle.folding.specs.Folding.{Skips}
 use Prim.Native.Nat.{_-_, _≤_}
-use lib.ListN.{length-set}
 use native.Mathlib.Omega.{arith}
 use borrow.Author.Needs.{needs}
 use Rattle.folding.proofs.skip_runs.Statement.{statement}

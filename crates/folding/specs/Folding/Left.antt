@@ -1,24 +1,23 @@
 -- The step of the merge as the code takes it: the runs whose next record has the least key move on, and the first of them gives the record.
---     raiseAll-same, raiseAll-other, length-raiseAll     the places of runs that move on, and of the others
 --     left-next, left-none       what is left of a run
 --     merge-step                 the next record of the merge
 --     merge-end                  where no run has a next record, nothing is left
 -- Assumes nothing.
-use mathlib.Core.Path.{_≡_, refl, sym, ap, _∙_, subst}
+use mathlib.Core.Path.{_≡_, sym, ap, _∙_, subst}
 use mathlib.Core.Logic.{⊎-elim}
-use Prim.Native.Nat.{ℕ, zero, suc, _+_, _^_, _≤_, _<_}
+use Prim.Native.Nat.{ℕ, suc, _+_, _^_, _≤_, _<_}
 use native.Mathlib.Numerals.{add-one}
 use native.Mathlib.Omega.{arith}
-use mathlib.Core.Bool.{Bool, true, false, cond, _&&_}
+use mathlib.Core.Bool.{false, cond, _&&_}
 use mathlib.Core.Option.{Option, none, some}
-use mathlib.Core.List.{List, [], _∷_, _++_, List·Memᴰ·tail, List·Memᴰ·not-nil, List·Memᴰ·cases-cons}
-use lib.ListN.{length, getD, set, take, drop, length-set, take-append-drop, drop-of-length-le}
-use lib.Seq.{getD-set-same, getD-set-other, drop-cons}
+use mathlib.Core.List.{List, [], _∷_, List·Memᴰ·not-nil, List·Memᴰ·cases-cons}
+use lib.ListN.{length, getD, take, drop, take-append-drop, drop-of-length-le}
+use lib.Seq.{drop-cons}
 use lib.Dec.{eqb, ltb}
 use borrow.Author.Tests.{lt-ltb, le-ltb, ltb-true, ltb-false, eq-eqb, ne-eqb, eqb-true, eqb-false}
 use Rattle.theory.specs.Tests.{cases}
 use Rattle.theory.specs.Lists.{here, all-nil, all-cons, place-getD}
-use Rattle.theory.specs.Rising.{Mem, All, Rises}
+use Rattle.theory.specs.Rising.{Mem, Rises}
 use Rattle.theory.specs.Rising
 use Rattle.theory.specs.Rising.Laws.{rises-right}
 use Rattle.theory.specs.Records.{Record}
@@ -27,40 +26,14 @@ use Rattle.tray.specs.Run.{recordAt}
 use Rattle.tray.specs.Check.{Sound}
 use Rattle.tray.specs.Meaning.{runsOf, Fits}
 use Rattle.tray.specs.Meaning.Laws.{runIn, length-runOf, getElem?-runOf, mem-runOf, mem-runsOf, rises-runOf}
-use Rattle.index.specs.Scan.{nextIn, hasNext, raise}
+use Rattle.index.specs.Scan.{nextIn, hasNext}
 use Rattle.build.specs.Build.Code.{highest, keyOr, nextKey, drawn, LeastKey}
 use Rattle.build.specs.Build.Code.Draws.{drawn-rises, drawn-mem, mem-drawn}
 use Rattle.build.specs.Build.Code.Merge.{nextKey-has}
 use Rattle.index.specs.Rules.{keyOf}
 use Rattle.folding.specs.Folding.{leftOf, mergeLeft, raiseAll}
-use Rattle.folding.specs.Folding.Step.{Above, Turn, took, past, turn-some, firstOf, firstOf-is, merged-turn, merged-nils}
-
-pub length-raiseAll : (rs places : List ℕ) → length (raiseAll rs places) ≡ length places
-unfolding raiseAll raise
-length-raiseAll [] places = refl
-length-raiseAll (r ∷ rs) places = length-raiseAll rs (raise places r) ∙ length-set places r (getD places r 0 + 1)
-
-pub raiseAll-other : (rs places : List ℕ) (r : ℕ) → (Mem r rs → ⊥) → getD (raiseAll rs places) r 0 ≡ getD places r 0
-unfolding raiseAll raise
-raiseAll-other [] places r d = refl
-raiseAll-other (q ∷ rs) places r d =
-    raiseAll-other rs (raise places q) r (λ m. d (List·Memᴰ·tail m))
-    ∙ getD-set-other places q r (getD places q 0 + 1) 0 (λ e. d (subst (λ (k : ℕ). Mem k (q ∷ rs)) (sym e) here))
-
-pub raiseAll-same : {rs : List ℕ} (places : List ℕ) (r : ℕ) → Rises (λ k. k) rs → Mem r rs → r < length places
-    → getD (raiseAll rs places) r 0 ≡ getD places r 0 + 1
-unfolding raiseAll raise
-raiseAll-same places r Rising.none m l = absurd (List·Memᴰ·not-nil m)
-raiseAll-same places r (Rising.more {a = q} {xs = rs} h k) m l =
-    ⊎-elim
-    (λ e. raiseAll-other rs (raise places q) r (λ n. let z : q < r = h r n in omega arith) ∙ same e)
-    (λ n. let z : q < r = h r n in
-    raiseAll-same (raise places q) r k n (rw (length-set places q (getD places q 0 + 1)) l)
-    ∙ ap (λ (j : ℕ). j + 1) (getD-set-other places q r (getD places q 0 + 1) 0 (λ e. omega arith)))
-    (List·Memᴰ·cases-cons m)
-  where
-    same : r ≡ q → getD (set places q (getD places q 0 + 1)) r 0 ≡ getD places r 0 + 1
-    same e = rw e (getD-set-same places q (getD places q 0 + 1) 0 (rw e at l))
+use Rattle.folding.specs.Folding.Raised.{raiseAll-same, raiseAll-other}
+use Rattle.folding.specs.Folding.Step.{Above, Turn, took, past, turn-some, firstOf-is, merged-turn, merged-nils}
 
 -- a list that rises is above its first member
 rises-above : {x : Record} {xs : List Record} → Rises keyOf (x ∷ xs) → Above (keyOf x) xs

@@ -13,11 +13,11 @@ use native.Mathlib.Nat.{eq-or-lt-of-le}
 use native.Mathlib.Omega.{arith}
 use mathlib.Core.Bool.{Bool, true, false, not}
 use mathlib.Core.Option.{Option, none, some, Option·some-injective}
-use mathlib.Core.List.{List, [], _∷_, List·Memᴰ·tail}
-use lib.Dec.{ltb, eqb}
+use mathlib.Core.List.{List, [], _∷_}
+use lib.Dec.{ltb}
 use borrow.Author.Tests.{lt-ltb, le-ltb, eq-eqb, ne-eqb}
 use Rattle.theory.specs.Lists.{here, all-tail, all-nil, none-some}
-use Rattle.theory.specs.Rising.{Mem, All, any, keep, insert, insertAll}
+use Rattle.theory.specs.Rising.{All, any, keep, insert, insertAll}
 use Rattle.theory.specs.Rising.Kept.{keep-mem}
 use Rattle.theory.specs.Rising.Inserted.{insertAll-mem}
 use Rattle.theory.specs.Records.{Record}

@@ -1,7 +1,8 @@
 -- `fold::write::put_head` meets its contract: four bytes, two stretches of the tray and a number between them, one right behind the other.
 -- Assumes nothing.
 use Prim.Native.Nat.{_+_, _*_}
-use Rattle.fold.specs.Fold.Code.Writes.{head-put, stretch-fits}
+use Rattle.fold.specs.Fold.Code.Trays.{head-put}
+use Rattle.fold.specs.Fold.Code.Writes.{between-fits}
 use lib.ListN.{length-set}
 use mathlib.Core.Path.{_∙_}
 use native.Mathlib.Omega.{arith}
@@ -64,7 +65,7 @@ part-copy-end : tie.Need-part-copy-end
 part-copy-end c = search needs
 
 copy-requires : tie.Need-copy-requires
-copy-requires c κs = simp length-set (stretch-fits 4 (4 + 2 * c .before .before .before .before .wide-size .result) (c .before .before .before .before .before .before .before .args .t .now) 4 (omega (arith, c .before .before .before .before .wide-size .ensures)) (omega (arith, c .before .before .before .before .before .before .before .pre, c .before .before .before .before .wide-size .ensures)) (omega (arith, c .before .before .before .before .before .before .before .pre, c .before .before .before .before .wide-size .ensures)))
+copy-requires c κs = simp length-set (between-fits 4 (4 + 2 * c .before .before .before .before .wide-size .result) (c .before .before .before .before .before .before .before .args .t .now) 4 (omega (arith, c .before .before .before .before .wide-size .ensures)) (omega (arith, c .before .before .before .before .before .before .before .pre, c .before .before .before .before .wide-size .ensures)) (omega (arith, c .before .before .before .before .before .before .before .pre, c .before .before .before .before .wide-size .ensures)))
 
 put2-requires : tie.Need-put2-requires
 put2-requires c κs = omega (arith, c .before .before .before .before .before .before .before .before .before .before .before .pre, c .before .before .before .before .before .before .before .before .wide-size .ensures, simp length-set at (c .before .before .before .copy .kept .1 .0))
@@ -82,7 +83,7 @@ add-copy : tie.Need-add-copy
 add-copy c = search needs
 
 copy-requires-2 : tie.Need-copy-requires-2
-copy-requires-2 c κs = stretch-fits (6 + 2 * c .before .before .before .before .before .before .before .before .before .before .before .before .wide-size2 .result) (4 + 2 * c .before .before .before .before .before .before .before .before .before .before .before .wide-size3 .result) (c .before .before .before .before .before .before .before .before .before .before .before .before .before .before .before .before .args .t .now) (4 + 2 * c .before .before .before .before .before .before .before .before .before .before .before .before .before .wide-size .result + 2) (omega (arith, c .before .before .before .before .before .before .before .before .before .before .before .before .before .before .before .before .pre, c .before .before .before .before .before .before .before .before .before .before .before .before .wide-size2 .ensures, c .before .before .before .before .before .before .before .before .before .before .before .wide-size3 .ensures)) (omega (arith, c .before .before .before .before .before .before .before .before .before .before .before .before .before .before .before .before .pre, c .before .before .before .before .before .before .before .before .before .before .before .wide-size3 .ensures)) (omega (arith, c .before .before .before .before .before .before .before .before .before .before .before .before .before .before .before .before .pre, c .before .before .before .before .before .before .before .before .before .before .before .before .before .wide-size .ensures, c .before .before .before .before .before .before .before .before .before .before .before .before .wide-size2 .ensures, c .before .before .before .before .before .before .before .before .before .before .before .wide-size3 .ensures, c .before .before .before .before .put2 .kept, simp length-set at (c .before .before .before .before .before .before .before .before .copy .kept .1 .0)))
+copy-requires-2 c κs = between-fits (6 + 2 * c .before .before .before .before .before .before .before .before .before .before .before .before .wide-size2 .result) (4 + 2 * c .before .before .before .before .before .before .before .before .before .before .before .wide-size3 .result) (c .before .before .before .before .before .before .before .before .before .before .before .before .before .before .before .before .args .t .now) (4 + 2 * c .before .before .before .before .before .before .before .before .before .before .before .before .before .wide-size .result + 2) (omega (arith, c .before .before .before .before .before .before .before .before .before .before .before .before .before .before .before .before .pre, c .before .before .before .before .before .before .before .before .before .before .before .before .wide-size2 .ensures, c .before .before .before .before .before .before .before .before .before .before .before .wide-size3 .ensures)) (omega (arith, c .before .before .before .before .before .before .before .before .before .before .before .before .before .before .before .before .pre, c .before .before .before .before .before .before .before .before .before .before .before .wide-size3 .ensures)) (omega (arith, c .before .before .before .before .before .before .before .before .before .before .before .before .before .before .before .before .pre, c .before .before .before .before .before .before .before .before .before .before .before .before .before .wide-size .ensures, c .before .before .before .before .before .before .before .before .before .before .before .before .wide-size2 .ensures, c .before .before .before .before .before .before .before .before .before .before .before .wide-size3 .ensures, c .before .before .before .before .put2 .kept, simp length-set at (c .before .before .before .before .before .before .before .before .copy .kept .1 .0)))
 
 same-length : tie.Need-same-length
 same-length c = c .before .before .copy2 .kept .1 .0 ∙ c .before .before .before .before .before .before .before .put2 .kept .0 ∙ c .before .before .before .before .before .before .before .before .before .before .before .copy .kept .1 .0 ∙ simp length-set

@@ -7,16 +7,14 @@
 --     folding-is                                  what a tray that was checked is
 -- Assumes nothing.
 use mathlib.Core.Path.{_≡_, refl, sym, ap, _∙_, subst}
-use Prim.Native.Nat.{ℕ, suc, _≤_, _<_}
-use native.Mathlib.Omega.{arith}
+use Prim.Native.Nat.{ℕ, _≤_, _<_}
 use mathlib.Core.Bool.{true, false}
-use mathlib.Core.List.{List, _∷_, _++_, Memᴰ·append-right}
-use lib.ListN.{length, take, drop}
+use mathlib.Core.List.{List, Memᴰ·append-right}
+use lib.ListN.{length, take}
 use borrow.Author.Tests.{le-leb, lt-leb, lt-ltb, le-ltb}
 use Rattle.number.specs.Big.{put, Bytes}
 use Rattle.refusal.specs.declared.Refusal.{Refusal}
 use Rattle.refusal.specs.declared.Refusal.the-variants.{TrayFrame as FrameRefusal, Bounds, Room, RunLength}
-use Rattle.theory.specs.Tests.{cases}
 use Rattle.theory.specs.Lists.{here}
 use Rattle.theory.specs.Rising.{Mem}
 use Rattle.theory.specs.Records.{Record, SoundRecord}

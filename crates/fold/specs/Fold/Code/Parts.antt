@@ -4,7 +4,7 @@
 --     size-parts                 how long it is
 -- Assumes nothing.
 use mathlib.Core.Path.{_≡_, refl, sym, ap, ap₂, _∙_}
-use Prim.Native.Nat.{ℕ, zero, suc, _+_, _-_, _*_, _≤_, _<_}
+use Prim.Native.Nat.{ℕ, suc, _+_, _-_, _*_, _≤_, _<_}
 use native.Mathlib.Nat.{zero-add}
 use native.Mathlib.Omega.{arith}
 use mathlib.Core.List.{List, [], _∷_, _++_, append-assoc}
@@ -27,18 +27,18 @@ use Rattle.tray.specs.Meaning.Read.{length-recordsBytes}
 use Rattle.tray.specs.Meaning.Write.{records-back, bytes-run}
 use Rattle.fold.specs.Fold.{keyOf, foldedRun, foldedRuns, foldBytes, foldSize}
 use Rattle.fold.specs.Fold.Laws.{length-foldBytes}
-use Rattle.fold.specs.Fold.Code.{stretch, headBytes, bodyBytes}
+use Rattle.fold.specs.Fold.Code.{between, headBytes, bodyBytes}
 use Rattle.folding.specs.Folding.Start.{listed-part, listed-drop}
 
 -- what stands between two places
-part-is : (x y : ℕ) (xs t : List ℕ) → x ≤ y → y ≤ length t → xs ++ drop y t ≡ drop x t → xs ≡ stretch x y t
+part-is : (x y : ℕ) (xs t : List ℕ) → x ≤ y → y ≤ length t → xs ++ drop y t ≡ drop x t → xs ≡ between x y t
 part-is x y xs t l h e =
     let long : length xs + length (drop y t) ≡ length (drop x t) = sym (length-append xs (drop y t)) ∙ ap length e in
     let own : length xs ≡ y - x = omega (arith, length-drop y t, length-drop x t) in
     sym (take-at xs (drop y t) (y - x) own) ∙ ap (take (y - x)) e
 
-pub length-stretch : (x y : ℕ) (s : List ℕ) → x ≤ y → y ≤ length s → length (stretch x y s) ≡ y - x
-length-stretch x y s l h = length-take-le (y - x) (drop x s) (omega (arith, length-drop x s))
+pub length-between : (x y : ℕ) (s : List ℕ) → x ≤ y → y ≤ length s → length (between x y s) ≡ y - x
+length-between x y s l h = length-take-le (y - x) (drop x s) (omega (arith, length-drop x s))
 
 module _ {t : List ℕ} (f : Framed t) (b : Bytes t) where
   -- a count stands in the tray
@@ -58,7 +58,7 @@ module _ {t : List ℕ} (f : Framed t) (b : Bytes t) where
       rw (records-back (countOf t r) (runBytes t r) (bytes-run t r b) (length-run t f r l))
       (rw next at (part-on (startOf t r) (startOf t (suc r) - startOf t r) t))
 
-  pub counts-part : (n i k : ℕ) → i + n ≡ k → k ≤ runCount t → countsBytes (listed n i (runIn t)) ≡ stretch (4 + 2 * i) (4 + 2 * k) t
+  pub counts-part : (n i k : ℕ) → i + n ≡ k → k ≤ runCount t → countsBytes (listed n i (runIn t)) ≡ between (4 + 2 * i) (4 + 2 * k) t
   unfolding countsBytes
   counts-part n i k e l =
       let room : startOf t 0 ≤ length t = startOf-within t f 0 (omega arith) in
@@ -66,7 +66,7 @@ module _ {t : List ℕ} (f : Framed t) (b : Bytes t) where
       (ap (λ (j : ℕ). countsBytes (listed n i (runIn t)) ++ drop (4 + 2 * j) t) (sym e)
       ∙ laid (λ r. bytesOf 2 (length r)) countsBytes refl (λ r rs. refl) t (runIn t) (λ r. 4 + 2 * r) n i (λ r u v. count-on r (omega arith)))
 
-  pub runs-part : (n i k : ℕ) → i + n ≡ k → k ≤ runCount t → runsBytes (listed n i (runIn t)) ≡ stretch (startOf t i) (startOf t k) t
+  pub runs-part : (n i k : ℕ) → i + n ≡ k → k ≤ runCount t → runsBytes (listed n i (runIn t)) ≡ between (startOf t i) (startOf t k) t
   unfolding runsBytes
   runs-part n i k e l =
       part-is (startOf t i) (startOf t k) (runsBytes (listed n i (runIn t))) t (startOf-le t i k (omega arith)) (startOf-within t f k l)
@@ -110,24 +110,24 @@ module _ {t : List ℕ} {a b : ℕ} (f : Framed t) (bytes : Bytes t) (order : a 
       length-fold keyOf (sameKey keyOf) a b (runsOf t) order inside ∙ ap (λ (n : ℕ). n - (b - a)) (length-runsOf t) in
       let rest : suc b + (runCount t - suc b) ≡ runCount t = omega arith in
       let six : 4 + 2 * suc b ≡ 6 + 2 * b = omega arith in
-      let counts-front : countsBytes (take a (runsOf t)) ≡ stretch 4 (4 + 2 * a) t = ap countsBytes front-runs ∙ counts-part f bytes a 0 a (zero-add a) (omega arith) in
-      let counts-back : countsBytes (drop (suc b) (runsOf t)) ≡ stretch (6 + 2 * b) (4 + 2 * runCount t) t =
+      let counts-front : countsBytes (take a (runsOf t)) ≡ between 4 (4 + 2 * a) t = ap countsBytes front-runs ∙ counts-part f bytes a 0 a (zero-add a) (omega arith) in
+      let counts-back : countsBytes (drop (suc b) (runsOf t)) ≡ between (6 + 2 * b) (4 + 2 * runCount t) t =
       ap countsBytes back-runs ∙ counts-part f bytes (runCount t - suc b) (suc b) (runCount t) rest (omega arith)
-      ∙ ap (λ (x : ℕ). stretch x (4 + 2 * runCount t) t) six in
-      let runs-front : runsBytes (take a (runsOf t)) ≡ stretch (startOf t 0) (startOf t a) t =
+      ∙ ap (λ (x : ℕ). between x (4 + 2 * runCount t) t) six in
+      let runs-front : runsBytes (take a (runsOf t)) ≡ between (startOf t 0) (startOf t a) t =
       ap runsBytes front-runs ∙ runs-part f bytes a 0 a (zero-add a) (omega arith) in
-      let runs-back : runsBytes (drop (suc b) (runsOf t)) ≡ stretch (startOf t (suc b)) (length t) t =
+      let runs-back : runsBytes (drop (suc b) (runsOf t)) ≡ between (startOf t (suc b)) (length t) t =
       ap runsBytes back-runs ∙ runs-part f bytes (runCount t - suc b) (suc b) (runCount t) rest (omega arith)
-      ∙ ap (λ (y : ℕ). stretch (startOf t (suc b)) y t) (sym (f .whole)) in
+      ∙ ap (λ (y : ℕ). between (startOf t (suc b)) y t) (sym (f .whole)) in
       tray-parts (take a (runsOf t)) (drop (suc b) (runsOf t)) w ∙ rw (number, counts-front, counts-back, runs-front, runs-back)
 
   pub length-head : (n : ℕ) → length (headBytes t a b n) ≡ 4 + 2 * (runCount t - (b - a))
   unfolding headBytes
   length-head n =
       let room : startOf t 0 ≤ length t = startOf-within t f 0 (omega arith) in
-      let front : length (stretch 4 (4 + 2 * a) t) ≡ 2 * a = length-stretch 4 (4 + 2 * a) t (omega arith) (omega (arith, startOf-zero t)) ∙ omega arith in
-      let back : length (stretch (6 + 2 * b) (4 + 2 * runCount t) t) ≡ 2 * (runCount t - (b + 1)) =
-      length-stretch (6 + 2 * b) (4 + 2 * runCount t) t (omega arith) (omega (arith, startOf-zero t)) ∙ omega arith in
+      let front : length (between 4 (4 + 2 * a) t) ≡ 2 * a = length-between 4 (4 + 2 * a) t (omega arith) (omega (arith, startOf-zero t)) ∙ omega arith in
+      let back : length (between (6 + 2 * b) (4 + 2 * runCount t) t) ≡ 2 * (runCount t - (b + 1)) =
+      length-between (6 + 2 * b) (4 + 2 * runCount t) t (omega arith) (omega (arith, startOf-zero t)) ∙ omega arith in
       simp (length-append, length-bytesOf, front, back) (omega arith)
 
   pub length-body : (w : List Record)
@@ -137,7 +137,7 @@ module _ {t : List ℕ} {a b : ℕ} (f : Framed t) (bytes : Bytes t) (order : a 
       let up : startOf t 0 ≤ startOf t a = startOf-le t 0 a (omega arith) in
       let in-tray : startOf t a ≤ length t = startOf-within t f a (omega arith) in
       let in-tray-2 : startOf t (suc b) ≤ length t = startOf-within t f (suc b) within in
-      simp (length-append, length-recordsBytes, length-stretch (startOf t 0) (startOf t a) t up in-tray, length-stretch (startOf t (suc b)) (length t) t in-tray-2 (omega arith)) (omega arith)
+      simp (length-append, length-recordsBytes, length-between (startOf t 0) (startOf t a) t up in-tray, length-between (startOf t (suc b)) (length t) t in-tray-2 (omega arith)) (omega arith)
 
   pub size-parts : foldSize a b (runsOf t)
       ≡ 4 + 2 * (runCount t - (b - a)) + ((startOf t a - startOf t 0) + 25 * length (foldedRun a b (runsOf t)) + (length t - startOf t (suc b)))
