@@ -1,5 +1,6 @@
 -- The merge of a tray's runs a to b (document 01, "Folding"), as the code takes it: how far each run has been read, the merge of what is left, and
 -- the records that are noted. The laws stand below. Assumes nothing.
+pub mod Bound
 pub mod Keeping
 pub mod Left
 pub mod Moves
@@ -18,7 +19,7 @@ use Rattle.theory.specs.Hiding.{sameKey}
 use Rattle.theory.specs.Listed.{listed}
 use Rattle.theory.specs.Merge.{merged}
 use Rattle.tray.specs.declared.frame.TrayFrame.{TrayFrame}
-use Rattle.tray.specs.Frame.{runCount, startOf, Opened}
+use Rattle.tray.specs.Frame.{runCount, countOf, startOf, Opened}
 use Rattle.tray.specs.Run.{recordFrom}
 use Rattle.tray.specs.Check.{Sound}
 use Rattle.tray.specs.Meaning.Laws.{runIn}
@@ -42,6 +43,11 @@ mergeLeft t places = merged keyOf (sameKey keyOf) (listed (runCount t) 0 (leftOf
 unfoldable pub raiseAll : List ℕ → List ℕ → List ℕ
 raiseAll [] places = places
 raiseAll (r ∷ rs) places = raiseAll rs (raise places r)
+
+-- the runs from h on have been read to their ends
+pub record Ended (t places : List ℕ) (h : ℕ) : Type 0 where
+  pub most : h ≤ runCount t
+  pub ended : (r : ℕ) → h ≤ r → r < runCount t → countOf t r ≤ getD places r 0
 
 -- where the next record of run r stands in the tray
 unfoldable pub nextAt : List ℕ → List ℕ → ℕ → ℕ

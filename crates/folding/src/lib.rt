@@ -16,7 +16,7 @@ ghost use Rattle.tray.specs.Check.{Sound};
 ghost use Rattle.tray.specs.Meaning.{runsOf};
 ghost use Rattle.index.specs.Scan.{raise};
 ghost use Rattle.build.specs.Build.Code.{Caching, Takeable};
-ghost use Rattle.folding.specs.Folding.{mergedRun, mergeLeft, raiseAll, noted, Skips, Keeps, Noted, Folding};
+ghost use Rattle.folding.specs.Folding.{mergedRun, mergeLeft, raiseAll, noted, Skips, Ended, Keeps, Noted, Folding};
 
 // The runs from one up to another read to their ends.
 fn skip_runs(counts: &[u16], from: usize, to: usize, places: &mut [u16])
@@ -86,10 +86,11 @@ fn note(kept: &mut [usize], n: usize, at: usize)
     }
 }
 
-// The next record of the merge noted as number n, if one is left: of the runs with the least key the first one's.
+// The next record of the merge noted as number n, if one is left: of the runs with the least key the first one's. Runs from `end` on are
+// not looked at.
 fn keep_next(
     t: &[u8],
-    h: u8,
+    end: u8,
     counts: &[u16],
     starts: &[usize],
     places: &mut [u16],
@@ -98,13 +99,13 @@ fn keep_next(
     n: usize,
 ) -> bool
     requires { ⌜ Caching (now t) (now counts) (now starts) (now places) (now keys) ⌝ }
-    requires { ⌜ (h ≡ runCount (now t)) × (length (now kept) ≡ 4096) ⌝ }
-    ensures { λ r. ⌜ Keeps (now (t .entry)) h (now (places .entry)) (now (kept .entry)) n (now (places .exit)) (now (kept .exit)) r ⌝ }
+    requires { ⌜ Ended (now t) (now places) end × (length (now kept) ≡ 4096) ⌝ }
+    ensures { λ r. ⌜ Keeps (now (t .entry)) (runCount (now (t .entry))) (now (places .entry)) (now (kept .entry)) n (now (places .exit)) (now (kept .exit)) r ⌝ }
     ensures { λ _. ⌜ Caching (now (t .entry)) (now (counts .entry)) (now (starts .entry)) (now (places .exit)) (now (keys .exit)) ⌝ }
 {
     let mut group = [0u8; 64];
-    let m = least(keys, h);
-    let g = draw(keys, counts, places, h, m, &mut group);
+    let m = least(keys, end);
+    let g = draw(keys, counts, places, end, m, &mut group);
     if 0 < g {
         let i = wide_size(group[0]);
         note(kept, n, starts[i] + 25 * size16(places[i]));
@@ -117,20 +118,20 @@ fn keep_next(
 // All records of the merge of what is left: how many.
 fn keep_all(
     t: &[u8],
-    h: u8,
+    end: u8,
     counts: &[u16],
     starts: &[usize],
     places: &mut [u16],
     keys: &mut [u64],
     kept: &mut [usize],
 ) -> usize
-    requires { ⌜ Sound (now t) × (h ≡ runCount (now t)) × (length (now kept) ≡ 4096) ⌝ }
+    requires { ⌜ Sound (now t) × Ended (now t) (now places) end × (length (now kept) ≡ 4096) ⌝ }
     requires { ⌜ Caching (now t) (now counts) (now starts) (now places) (now keys) ⌝ }
     ensures { λ n. ⌜ Noted (now (t .entry)) (mergeLeft (now (t .entry)) (now (places .entry))) (now (kept .exit)) n ⌝ }
 {
     let mut n: usize = 0;
     loop {
-        if keep_next(t, h, counts, starts, places, keys, kept, n) {
+        if keep_next(t, end, counts, starts, places, keys, kept, n) {
             n += 1;
             continue;
         }
@@ -153,5 +154,5 @@ pub fn merge_runs(t: &[u8], f: TrayFrame, a: RunNo, b: RunNo, kept: &mut [usize]
     skip_runs(&counts, 0, wide_size(x), &mut places);
     skip_runs(&counts, wide_size(y) + 1, wide_size(h), &mut places);
     fill_keys(t, h, &counts, &starts, &places, &mut keys);
-    keep_all(t, h, &counts, &starts, &mut places, &mut keys, kept)
+    keep_all(t, y + 1, &counts, &starts, &mut places, &mut keys, kept)
 }

@@ -1,6 +1,6 @@
--- `folding::merge_runs` meets its contract: with the runs outside a to b at their ends, the merge of what is left is the folded run.
+-- `folding::merge_runs` meets its contract: with the runs outside a to b at their ends, the merge of what is left is the merge of these runs.
 -- Assumes nothing.
-use Rattle.folding.specs.Folding.Moves.{folding-reading, folding-merge, folding-noted}
+use Rattle.folding.specs.Folding.Moves.{folding-reading, folding-merge, folding-ended, folding-noted}
 use Rattle.build.specs.Build.Code.Loops.{padded-none}
 use borrow.Author.Needs.{needs}
 use Rattle.folding.proofs.merge_runs.Statement.{statement}
@@ -51,6 +51,9 @@ slice-aggregate-fill-keys-4 c = search needs
 fill-keys-requires : tie.Need-fill-keys-requires
 fill-keys-requires c κs = (folding-reading (c .before .before .before .before .before .before .before .before .before .before .before .before .before .before .before .before .before .before .before .pre .0) (c .before .before .before .before .before .skip-runs2 .ensures .room), (c .before .before .before .before .before .before .before .before .before .before .before .before .before .before .before .before .before .before .before .pre .0 .opened .runs, padded-none))
 
+add-keep-all : tie.Need-add-keep-all
+add-keep-all c = search needs
+
 slice-aggregate-keep-all : tie.Need-slice-aggregate-keep-all
 slice-aggregate-keep-all c = search needs
 
@@ -64,7 +67,7 @@ slice-aggregate-keep-all-4 : tie.Need-slice-aggregate-keep-all-4
 slice-aggregate-keep-all-4 c = search needs
 
 keep-all-requires : tie.Need-keep-all-requires
-keep-all-requires c κs = ((c .before .before .before .before .before .before .before .before .before .before .before .before .before .before .before .before .before .before .before .before .before .before .before .before .before .before .pre .0 .sound, c .before .before .before .before .before .before .before .before .before .before .before .before .before .before .before .before .before .before .before .before .before .before .before .before .before .before .pre .0 .opened .runs, c .before .before .before .before .before .before .before .before .before .before .before .before .before .before .before .before .before .before .before .before .before .before .before .before .before .before .pre .1), c .before .before .before .before .before .before .fill-keys .ensures)
+keep-all-requires c κs = ((c .before .before .before .before .before .before .before .before .before .before .before .before .before .before .before .before .before .before .before .before .before .before .before .before .before .before .pre .0 .sound, folding-ended (c .before .before .before .before .before .before .before .before .before .before .before .before .before .before .before .before .before .before .before .before .before .before .before .before .before .before .pre .0) (c .before .before .before .before .before .before .before .before .before .before .before .before .before .before .before .wide-size2 .ensures) (c .before .before .before .before .before .before .before .before .before .before .before .before .before .before .wide-size3 .ensures) (c .before .before .before .before .before .before .before .before .before .before .before .before .skip-runs2 .ensures), c .before .before .before .before .before .before .before .before .before .before .before .before .before .before .before .before .before .before .before .before .before .before .before .before .before .before .pre .1), c .before .before .before .before .before .before .fill-keys .ensures)
 
 same-length : tie.Need-same-length
 same-length c = search needs
@@ -91,6 +94,7 @@ merge-runs-spec =
     slice-aggregate-fill-keys-3
     slice-aggregate-fill-keys-4
     fill-keys-requires
+    add-keep-all
     slice-aggregate-keep-all
     slice-aggregate-keep-all-2
     slice-aggregate-keep-all-3

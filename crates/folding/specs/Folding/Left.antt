@@ -81,7 +81,7 @@ module _ (t places : List ℕ) (r : ℕ) where
   given-none m l d = rw (lt-ltb _ _ l, ne-eqb (nextIn t places r .key) m d)
 
 -- the key that is kept of a run at its end
-end-key : (t places : List ℕ) (r : ℕ) → ltb (getD places r 0) (countOf t r) ≡ false → nextKey t places r ≡ highest
+pub end-key : (t places : List ℕ) (r : ℕ) → ltb (getD places r 0) (countOf t r) ≡ false → nextKey t places r ≡ highest
 unfolding nextKey keyOr
 end-key t places r n = rw n
 

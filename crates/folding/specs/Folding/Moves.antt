@@ -1,6 +1,6 @@
 -- What the code that moves runs needs: each law is a way out of a function, or a turn of its loop.
 --     skips-none, skips-more, skips-all             runs read to their ends
---     folding-reading, folding-merge, folding-noted what the merge starts from
+--     folding-reading, folding-merge, folding-ended, folding-noted     what the merge starts from
 --     Moving, moving-none, -head, -more, -all       the runs of a key, one by one
 -- Assumes nothing.
 use mathlib.Core.Path.{_≡_, refl, _∙_, subst, subst₂}
@@ -19,7 +19,7 @@ use Rattle.index.specs.Scan.{raise}
 use Rattle.index.specs.Scan.Code.{Reading}
 use Rattle.build.specs.Build.Code.{Caching, Takeable, more}
 use Rattle.build.specs.Build.Code.Versions.{group-next}
-use Rattle.folding.specs.Folding.{mergedRun, mergeLeft, raiseAll, Skips, Noted, Folding}
+use Rattle.folding.specs.Folding.{mergedRun, mergeLeft, raiseAll, Ended, Skips, Noted, Folding}
 use Rattle.folding.specs.Folding.Start.{Begins, merge-begins}
 
 -- the runs from `from` up to `to` read to their ends, one by one
@@ -74,6 +74,16 @@ module _ {t : List ℕ} {a b : ℕ} {f : TrayFrame} (g : Folding t a b f) where
       let before : Skips (f .counts) (replicate 63 0) 0 a places₁ = subst (λ (n : ℕ). Skips (f .counts) (replicate 63 0) 0 n places₁) p v in
       let behind : Skips (f .counts) places₁ (b + 1) (f .runs) places = subst₂ (λ (n m : ℕ). Skips (f .counts) places₁ (n + 1) m places) q r w in
       merge-begins (begins (zeros 63) (g .opened .counts) (g .opened .runs) (g .order) before behind) (g .order) (g .within)
+
+  pub folding-ended : {j k : ℕ} {places₁ places : List ℕ} → j ≡ b → k ≡ f .runs
+      → Skips (f .counts) places₁ (j + 1) k places → Ended t places (b + 1)
+  folding-ended {j} {k} p q w =
+      let runs : f .runs ≡ runCount t = g .opened .runs in
+      let within : b < runCount t = g .within in
+      record {
+        most = omega arith;
+        ended = λ r l u. let z : getD (f .counts) r 0 ≡ countOf t r = g .opened .counts r u in omega (arith, w .read r (omega arith) (omega arith));
+      }
 
   pub folding-noted : {w : List Record} {kept : List ℕ} {n : ℕ} → w ≡ mergedRun a b (runsOf t) → Noted t w kept n → Noted t (mergedRun a b (runsOf t)) kept n
   folding-noted {w} {kept} {n} e k = subst (λ (v : List Record). Noted t v kept n) e k
