@@ -1,0 +1,3 @@
+-- Sheet, for every tray, index, prefix and room.
+-- its answer, and what it leaves in the output
+pub mod Answers
