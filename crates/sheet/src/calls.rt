@@ -14,5 +14,4 @@ pub enum SheetAnswer {
 pub fn sheet(t: &[u8], x: &[u8], prefix: &[u8], out: &mut [u8]) -> SheetAnswer
     ensures { λ r. ⌜ r ≡ sheetAnswer (now (t .entry)) (now (x .entry)) (now (prefix .entry)) (length (now (out .entry))) ⌝ }
     ensures { λ r. ⌜ now (out .exit) ≡ sheetLeaves (now (t .entry)) (now (x .entry)) (now (prefix .entry)) (now (out .entry)) r ⌝ }
-{
-}
+{}
