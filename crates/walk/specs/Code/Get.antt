@@ -1,6 +1,7 @@
 -- What the code of get needs of the definitions.
 --     valueIf, nothingAt            what the code's parts answer
 --     InTray, seek-named            a record found is one of the tray's
+--     came                          what the code's walk hands over is where the seek came to
 --     got-value, got-nothing        what get came to
 -- Assumes nothing.
 use mathlib.Core.Path.{_≡_, refl, sym, ap, ap₂, _∙_, subst}
@@ -84,10 +85,10 @@ stay-named t x key n v c st f low inside there e =
 pub seek-named : (t x : List ℕ) (key k g : ℕ) {f : Found} → walkSegments t x (seekVisit t key) k g 0 ≡ stayed f → InTray t f
 seek-named t x key k g {f} e = segments-stayed t x (seekVisit t key) (InTray t) (g + k) (stay-named t x key (g + k)) k g 0 f (omega arith) e
 
--- what the code's walk hands over is where get's seek came to
+-- what the code's walk hands over is where the seek came to
 module _ (t x : List ℕ) (key : ℕ) {h d n g : ℕ} {counts : List ℕ} (s : Sought) (w : Walking t x h d n counts) (e : g ≡ start h x key)
     (walked : soughtOf s ≡ walkSegments t x (seekVisit t key) (n - g) g 0) where
-  came : soughtAs (s .sight) (spotOf (s .cursor)) ≡ seek t x key
+  pub came : soughtAs (s .sight) (spotOf (s .cursor)) ≡ seek t x key
   unfolding soughtOf seek
   came =
       walked
