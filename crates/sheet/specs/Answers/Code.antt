@@ -1,10 +1,11 @@
 -- What the code of sheet needs of its answer.
---     nothingAt, listedAs, left, Leaves           what the code's parts answer, and leave in the output
---     leaves-full, leaves-written                 the second pass
---     counted-bound, counted-end, counted-loss    what the first pass says of the records
---     told-listed, told-left, told-lost           both passes
---     between-found, between-left, between-none, none-left     after the seek
---     framed-none, framed-long, framed-last, framed-between, framed-left     the prefix
+--     nothingAt, listedAs, left, Leaves                        what the code's parts answer, and leave in the output
+--     listed-fits, listed-short, leaves-full, leaves-written   the second pass
+--     counted-bound, counted-end                               what the first pass says of the records
+--     told-lost, told-listed                                   both passes
+--     between-is, between-none, none-left                      after the seek
+--     framed-none, framed-long, framed-last, framed-walked     the prefix
+--     between-bounds, left-leaves                              its bounds, and what is left
 -- Assumes nothing.
 use mathlib.Core.Path.{_≡_, refl, sym, ap, ap₂, _∙_, subst}
 use Prim.Native.Nat.{ℕ, _+_, _-_, _*_, _≤_, _<_}
@@ -54,6 +55,14 @@ nothingAt (SightLost g s) = Refused (Lost g s)
 -- so many records are listed, where the output has room for them
 unfoldable pub listedAs : ℕ → ℕ → SheetAnswer
 listedAs room count = cond (leb (24 * count) room) (Listed count) (Refused (Room (24 * count)))
+
+pub listed-fits : (room count : ℕ) → 24 * count ≤ room → Listed count ≡ listedAs room count
+unfolding listedAs
+listed-fits room count l = sym (rw (le-leb (24 * count) room l))
+
+pub listed-short : (room count : ℕ) → room < 24 * count → Refused (Room (24 * count)) ≡ listedAs room count
+unfolding listedAs
+listed-short room count l = sym (rw (lt-leb (24 * count) room l))
 
 -- what an answer leaves in the output, by where the walk came to
 unfoldable pub left : Walked (List Record) (List Record) → List ℕ → SheetAnswer → List ℕ
@@ -138,9 +147,9 @@ module _ (t x : List ℕ) (low : ℕ) {h d n g : ℕ} {counts : List ℕ} (s : S
 
   module _ (none : (run : RunNo) (place : Place) → s .sight ≡ SightFound run place → ⊥) where
     -- nothing found
-    pub between-none : (room : ℕ) → nothingAt (s .sight) ≡ sheetTold room (sheetFrom t x high (seek t x low))
+    pub between-none : (room : ℕ) {r : SheetAnswer} → r ≡ nothingAt (s .sight) → r ≡ sheetTold room (sheetFrom t x high (seek t x low))
     unfolding nothingAt sheetTold sheetFrom soughtAs
-    between-none room = at-sight (s .sight) refl ∙ ap (λ (a : Walked ℕ Found). sheetTold room (sheetFrom t x high a)) (came t x low s w e walked)
+    between-none room j = j ∙ at-sight (s .sight) refl ∙ ap (λ (a : Walked ℕ Found). sheetTold room (sheetFrom t x high a)) (came t x low s w e walked)
       where
         at-sight : (a : Sight) → s .sight ≡ a → nothingAt a ≡ sheetTold room (sheetFrom t x high (soughtAs a (spotOf (s .cursor))))
         at-sight (SightFound run place) z = absurd (none run place z)
@@ -148,9 +157,11 @@ module _ (t x : List ℕ) (low : ℕ) {h d n g : ℕ} {counts : List ℕ} (s : S
         at-sight (SightLost g s) z = refl
 
     -- and nothing written
-    pub none-left : (out : List ℕ) → out ≡ left (sheetFrom t x high (seek t x low)) out (nothingAt (s .sight))
+    pub none-left : (out : List ℕ) {r : SheetAnswer} → r ≡ nothingAt (s .sight) → out ≡ left (sheetFrom t x high (seek t x low)) out r
     unfolding nothingAt sheetFrom soughtAs left recordsOf listing put
-    none-left out = at-sight (s .sight) refl ∙ ap (λ (a : Walked ℕ Found). left (sheetFrom t x high a) out (nothingAt (s .sight))) (came t x low s w e walked)
+    none-left out j =
+        at-sight (s .sight) refl
+        ∙ ap₂ (λ (a : Walked ℕ Found) (r : SheetAnswer). left (sheetFrom t x high a) out r) (came t x low s w e walked) (sym j)
       where
         at-sight : (a : Sight) → s .sight ≡ a → out ≡ left (sheetFrom t x high (soughtAs a (spotOf (s .cursor)))) out (nothingAt a)
         at-sight (SightFound run place) z = absurd (none run place z)

@@ -1,3 +1,14 @@
+use Rattle.sheet.specs.Answers.Code.{left, between-is, between-none, none-left}
+use Rattle.sheet.specs.Answers.{sheetTold}
+use Rattle.walk.specs.Code.Get.{not-found}
+use Rattle.walk.specs.Walk.{Walked}
+use Rattle.walk.proofs.cursor.Sight.{the-type}
+use Rattle.walk.specs.declared.cursor.Sight.{Sight}
+use Rattle.theory.specs.Records.{Record}
+use denote.Enum.Declared.{tagOf}
+use denote.Ref.{now}
+use types.Run.{OneOf}
+use mathlib.Core.List.{List, [], _∷_}
 use Rattle.walk.specs.Code.Inside.{seek-inside}
 use Rattle.walk.specs.Answers.Code.{walking}
 use mathlib.Core.Path.{sym, ap, subst, _∙_}
@@ -38,7 +49,7 @@ found-nothing-requires c κs = search needs
 
 -- src/calls.rt:123:9
 returns : tie.Need-returns
-returns c = ?
+returns c = (between-none _ _ _ _ (walking (c .before .before .before .before .before .before .before .before .before .before .before .pre .0) (c .before .before .before .before .before .before .before .before .before .before .before .pre .1)) (c .before .before .before .before .before .start-at .ensures) (c .before .before .seek-from .ensures) _ (λ run place z. not-found (subst (λ (s : Sight). OneOf (1 ∷ 2 ∷ []) (tagOf the-type s)) z (c .before .match .keys2))) _ (c .found-nothing .ensures), none-left _ _ _ _ (walking (c .before .before .before .before .before .before .before .before .before .before .before .pre .0) (c .before .before .before .before .before .before .before .before .before .before .before .pre .1)) (c .before .before .before .before .before .start-at .ensures) (c .before .before .seek-from .ensures) _ (λ run place z. not-found (subst (λ (s : Sight). OneOf (1 ∷ 2 ∷ []) (tagOf the-type s)) z (c .before .match .keys2))) _ (c .found-nothing .ensures))
 
 -- src/calls.rt:126:30
 slice-aggregate-list-from : tie.Need-slice-aggregate-list-from
@@ -58,7 +69,7 @@ same-length c = search needs
 
 -- src/calls.rt:101:1
 returns-2 : tie.Need-returns-2
-returns-2 c = ?
+returns-2 c = let z = between-is _ _ _ _ (walking (c .before .before .before .before .before .before .before .before .before .before .before .before .before .before .before .before .before .before .before .pre .0) (c .before .before .before .before .before .before .before .before .before .before .before .before .before .before .before .before .before .before .before .pre .1)) (c .before .before .before .before .before .before .before .before .before .before .before .before .before .start-at .ensures) (c .before .before .before .before .before .before .before .before .before .before .seek-from .ensures) _ (c .before .before .before .before .before .before .before .before .sight .given .1) in (c .before .before .list-from .ensures .0 ∙ ap (sheetTold _) z, c .before .before .list-from .ensures .1 ∙ ap (λ (w : Walked (List Record) (List Record)). left w (now (c .before .before .before .before .before .before .before .before .before .before .before .before .before .before .before .before .before .before .before .args .out)) (c .before .before .list-from .result)) z)
 
 pub sheet-between-spec : {M : Type 1} → statement M
 sheet-between-spec =
