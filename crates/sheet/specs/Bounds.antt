@@ -1,7 +1,7 @@
 -- The bounds of a prefix as the code makes them: a copy of the prefix in an array of zeros, its last byte raised for the upper one.
 --     Filling, filling-none, filling-more, filling-end      the loop that copies
 --     be-raised                                             a byte raised by one
---     high-set                                              the upper bound
+--     filled-long, high-set                                 the upper bound
 -- Assumes nothing.
 use mathlib.Core.Path.{_≡_, refl, sym, ap, ap₂, _∙_}
 use Prim.Native.Nat.{ℕ, zero, suc, _+_, _-_, _*_, _^_, _≤_, _<_}
@@ -9,7 +9,7 @@ use native.Mathlib.Nat.{zero-add, add-zero, suc-mul}
 use native.Mathlib.Numerals.{add-one}
 use native.Mathlib.Omega.{arith}
 use mathlib.Core.List.{List, [], _∷_, _++_}
-use lib.ListN.{length, getD, set, take, replicate, length-set, length-append, List·getD-append}
+use lib.ListN.{length, getD, set, take, replicate, length-set, length-append, length-replicate, List·getD-append}
 use lib.Seq.{length-take-le, set-at, append-snoc, take-suc, take-all, getD-set-same, getD-set-other}
 use Rattle.number.specs.Big.{be}
 use Rattle.number.specs.Big.Laws.{be-same, be-add}
@@ -60,7 +60,11 @@ be-raised i m s l =
     sum : (a p b : ℕ) → (a + 1) * p + b ≡ a * p + b + p
     sum a p b = rw (add-one a, suc-mul) (omega arith)
 
--- the upper bound
+-- the array has 8 bytes
+pub filled-long : (prefix : List ℕ) {key : List ℕ} → length prefix ≤ 8 → key ≡ prefix ++ replicate (8 - length prefix) 0 → length key ≡ 8
+filled-long prefix most filled = ap length filled ∙ length-append prefix (replicate (8 - length prefix) 0) ∙ rw length-replicate (omega arith)
+
+-- and the upper bound, in such an array with the last byte raised
 pub high-set : (prefix : List ℕ) {key : List ℕ} {i : ℕ} → 1 ≤ length prefix → length prefix ≤ 8 → i ≡ length prefix - 1
     → key ≡ prefix ++ replicate (8 - length prefix) 0 → be 8 (set key i (getD prefix i 0 + 1)) 0 ≡ highKey prefix
 unfolding highKey lowKey
@@ -68,8 +72,8 @@ high-set prefix {key} {i} least most last filled =
     let whole : suc i + (8 - length prefix) ≡ 8 = omega arith in
     let byte : getD prefix i 0 ≡ getD key i 0 =
     sym (ap (λ (s : List ℕ). getD s i 0) filled ∙ List·getD-append prefix (replicate (8 - length prefix) 0) 0 i (omega arith)) in
-    let long : i < length key = rw (filled, length-append) (omega arith) in
+    let long : length key ≡ 8 = filled-long prefix most filled in
     ap (λ (b : ℕ). be 8 (set key i (b + 1)) 0) byte
     ∙ ap (λ (w : ℕ). be w (set key i (getD key i 0 + 1)) 0) (sym whole)
-    ∙ be-raised i (8 - length prefix) key long
+    ∙ be-raised i (8 - length prefix) key (omega arith)
     ∙ ap₂ (λ (w : ℕ) (s : List ℕ). be w s 0 + 256 ^ (8 - length prefix)) whole filled

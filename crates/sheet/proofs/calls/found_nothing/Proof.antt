@@ -1,35 +1,27 @@
+-- `sheet::calls::found_nothing` meets its contract. Assumes nothing.
 use Rattle.sheet.specs.Answers.Code.{nothingAt}
 use mathlib.Core.Path.{ap, sym}
-use native.Mathlib.Omega.{arith}
 use borrow.Author.Needs.{needs}
 use Rattle.sheet.proofs.calls.found_nothing.Statement.{statement}
 use Rattle.sheet.proofs.calls.found_nothing.Tie as tie
-use Rattle.sheet.proofs.calls.found_nothing.Reads as reads
-use Rattle.sheet.proofs.calls.found_nothing.Lts as lts
 
--- src/calls.rt:39:21
 enum-known-sight : tie.Need-enum-known-sight
 enum-known-sight c = search needs
 
--- src/calls.rt:40:23
 enum-told : tie.Need-enum-told
 enum-told c = search needs
 
--- src/calls.rt:41:31
 enum-told-2 : tie.Need-enum-told-2
 enum-told-2 c = search needs
 
--- src/calls.rt:35:1
 returns : tie.Need-returns
 unfolding nothingAt
 returns c = ap nothingAt (sym (c .before .sight .given .1))
 
--- src/calls.rt:35:1
 returns-2 : tie.Need-returns-2
 unfolding nothingAt
 returns-2 c = ap nothingAt (sym (c .enum-told .given .1))
 
--- src/calls.rt:35:1
 returns-3 : tie.Need-returns-3
 unfolding nothingAt
 returns-3 c = ap nothingAt (sym (c .enum-told2 .given .1))

@@ -1,48 +1,43 @@
-use native.Mathlib.Omega.{arith}
+-- `sheet::calls::sheet` meets its contract. Assumes nothing.
+use Rattle.sheet.specs.Answers.{sheetAnswer, sheetLeaves}
+use Rattle.sheet.specs.declared.calls.SheetAnswer.the-variants.{Refused}
+use Rattle.walk.specs.Answers.Code.{frames-tray, frames-index, frames-fit}
+use Rattle.index.specs.Layout.Code.{laid}
+use Rattle.tray.specs.Frame.Code.{opened}
+use mathlib.Core.Path.{refl, sym, _∙_}
 use borrow.Author.Needs.{needs}
 use Rattle.sheet.proofs.calls.sheet.Statement.{statement}
 use Rattle.sheet.proofs.calls.sheet.Tie as tie
-use Rattle.sheet.proofs.calls.sheet.Reads as reads
-use Rattle.sheet.proofs.calls.sheet.Lts as lts
-use Rattle.index.proofs.frame.index_frame.Reads as index-frame-reads
-use Rattle.sheet.proofs.calls.sheet_framed.Reads as sheet-framed-reads
-use Rattle.tray.proofs.frame.tray_frame.Reads as tray-frame-reads
 
--- src/calls.rt:162:9
 tray-frame-requires : tie.Need-tray-frame-requires
 tray-frame-requires c κs = search needs
 
--- src/calls.rt:164:15
 index-frame-requires : tie.Need-index-frame-requires
 index-frame-requires c κs = search needs
 
--- src/calls.rt:165:30
 enum-known-d : tie.Need-enum-known-d
 enum-known-d c = search needs
 
--- src/calls.rt:166:17
 sheet-framed-requires : tie.Need-sheet-framed-requires
-sheet-framed-requires c κs = search needs
+sheet-framed-requires c κs = ((opened _ (c .before .before .before .before .before .before .tray-frame .ensures) (c .before .before .before .before .before .if1 .taken)), laid _ _ ((opened _ (c .before .before .before .before .before .before .tray-frame .ensures) (c .before .before .before .before .before .if1 .taken)) .runs) (sym (c .before .before .d .given .1) ∙ c .before .before .before .before .index-frame .ensures))
 
--- src/calls.rt:166:17
 same-length : tie.Need-same-length
 same-length c = search needs
 
--- src/calls.rt:166:17
 returns : tie.Need-returns
-returns c = search needs
+unfolding sheetAnswer
+returns c = (frames-fit Refused _ (c .before .before .before .before .before .before .before .before .before .tray-frame .ensures) (c .before .before .before .before .before .before .before .before .if1 .taken) _ (sym (c .before .before .before .before .before .d .given .1) ∙ c .before .before .before .before .before .before .before .index-frame .ensures) (c .before .before .sheet-framed .ensures .0), c .before .before .sheet-framed .ensures .1)
 
--- src/calls.rt:169:45
 enum-told : tie.Need-enum-told
 enum-told c = search needs
 
--- src/calls.rt:169:17
 returns-2 : tie.Need-returns-2
-returns-2 c = search needs
+unfolding sheetAnswer sheetLeaves
+returns-2 c = (frames-index Refused _ (c .before .before .before .before .tray-frame .ensures) (c .before .before .before .if1 .taken) _ (sym (c .enum-told .given .1) ∙ c .before .before .index-frame .ensures) refl, refl)
 
--- src/calls.rt:158:1
 returns-3 : tie.Need-returns-3
-returns-3 c = search needs
+unfolding sheetAnswer sheetLeaves
+returns-3 c = (frames-tray Refused _ (c .before .tray-frame .ensures) _ (c .if1 .left) refl, refl)
 
 pub sheet-spec : {M : Type 1} → statement M
 sheet-spec =

@@ -1,3 +1,4 @@
+-- `sheet::calls::sheet_between` meets its contract. Assumes nothing.
 use Rattle.sheet.specs.Answers.Code.{left, between-is, between-none, none-left}
 use Rattle.sheet.specs.Answers.{sheetTold}
 use Rattle.walk.specs.Code.Get.{not-found}
@@ -16,58 +17,40 @@ use native.Mathlib.Omega.{arith}
 use borrow.Author.Needs.{needs}
 use Rattle.sheet.proofs.calls.sheet_between.Statement.{statement}
 use Rattle.sheet.proofs.calls.sheet_between.Tie as tie
-use Rattle.sheet.proofs.calls.sheet_between.Reads as reads
-use Rattle.sheet.proofs.calls.sheet_between.Lts as lts
-use Rattle.sheet.proofs.calls.found_nothing.Reads as found-nothing-reads
-use Rattle.sheet.proofs.calls.list_from.Reads as list-from-reads
-use Rattle.walk.proofs.begin.start_at.Reads as start-at-reads
-use Rattle.walk.proofs.seek.seek_from.Reads as seek-from-reads
 
--- src/calls.rt:119:9
 start-at-requires : tie.Need-start-at-requires
 start-at-requires c κs = (walking (c .before .before .before .before .before .pre .0) (c .before .before .before .before .before .pre .1)) .index
 
--- src/calls.rt:120:43
 slice-aggregate-seek-from : tie.Need-slice-aggregate-seek-from
 slice-aggregate-seek-from c = sym (c .before .before .before .before .before .before .before .pre .0 .room)
 
--- src/calls.rt:120:52
 slice-aggregate-seek-from-2 : tie.Need-slice-aggregate-seek-from-2
 slice-aggregate-seek-from-2 c = sym (c .before .before .before .before .before .before .before .before .pre .0 .at .room)
 
--- src/calls.rt:120:9
 seek-from-requires : tie.Need-seek-from-requires
 seek-from-requires c κs = ((walking (c .before .before .before .before .before .before .before .before .pre .0) (c .before .before .before .before .before .before .before .before .pre .1)), c .before .before .before .before .before .before .before .before .pre .0 .at)
 
--- src/calls.rt:122:22
 enum-known-sight : tie.Need-enum-known-sight
 enum-known-sight c = search needs
 
--- src/calls.rt:123:9
 found-nothing-requires : tie.Need-found-nothing-requires
 found-nothing-requires c κs = search needs
 
--- src/calls.rt:123:9
 returns : tie.Need-returns
 returns c = (between-none _ _ _ _ (walking (c .before .before .before .before .before .before .before .before .before .before .before .pre .0) (c .before .before .before .before .before .before .before .before .before .before .before .pre .1)) (c .before .before .before .before .before .start-at .ensures) (c .before .before .seek-from .ensures) _ (λ run place z. not-found (subst (λ (s : Sight). OneOf (1 ∷ 2 ∷ []) (tagOf the-type s)) z (c .before .match .keys2))) _ (c .found-nothing .ensures), none-left _ _ _ _ (walking (c .before .before .before .before .before .before .before .before .before .before .before .pre .0) (c .before .before .before .before .before .before .before .before .before .before .before .pre .1)) (c .before .before .before .before .before .start-at .ensures) (c .before .before .seek-from .ensures) _ (λ run place z. not-found (subst (λ (s : Sight). OneOf (1 ∷ 2 ∷ []) (tagOf the-type s)) z (c .before .match .keys2))) _ (c .found-nothing .ensures))
 
--- src/calls.rt:126:30
 slice-aggregate-list-from : tie.Need-slice-aggregate-list-from
 slice-aggregate-list-from c = sym (c .before .before .before .before .before .before .before .before .before .before .before .before .before .before .pre .0 .room)
 
--- src/calls.rt:126:39
 slice-aggregate-list-from-2 : tie.Need-slice-aggregate-list-from-2
 slice-aggregate-list-from-2 c = sym (c .before .before .before .before .before .before .before .before .before .before .before .before .before .before .before .pre .0 .at .room)
 
--- src/calls.rt:126:5
 list-from-requires : tie.Need-list-from-requires
 list-from-requires c κs = let z = seek-inside _ _ _ _ _ (walking (c .before .before .before .before .before .before .before .before .before .before .before .before .before .before .before .before .pre .0) (c .before .before .before .before .before .before .before .before .before .before .before .before .before .before .before .before .pre .1)) (c .before .before .before .before .before .before .before .seek-from .ensures) (c .before .before .before .before .before .sight .given .1) in ((walking (c .before .before .before .before .before .before .before .before .before .before .before .before .before .before .before .before .pre .0) (c .before .before .before .before .before .before .before .before .before .before .before .before .before .before .before .before .pre .1)), (c .before .before .before .before .before .before .before .before .before .before .before .before .before .before .before .before .pre .0 .at, (z .0, omega (arith, z .1))))
 
--- src/calls.rt:101:1
 same-length : tie.Need-same-length
 same-length c = search needs
 
--- src/calls.rt:101:1
 returns-2 : tie.Need-returns-2
 returns-2 c = let z = between-is _ _ _ _ (walking (c .before .before .before .before .before .before .before .before .before .before .before .before .before .before .before .before .before .before .before .pre .0) (c .before .before .before .before .before .before .before .before .before .before .before .before .before .before .before .before .before .before .before .pre .1)) (c .before .before .before .before .before .before .before .before .before .before .before .before .before .start-at .ensures) (c .before .before .before .before .before .before .before .before .before .before .seek-from .ensures) _ (c .before .before .before .before .before .before .before .before .sight .given .1) in (c .before .before .list-from .ensures .0 ∙ ap (sheetTold _) z, c .before .before .list-from .ensures .1 ∙ ap (λ (w : Walked (List Record) (List Record)). left w (now (c .before .before .before .before .before .before .before .before .before .before .before .before .before .before .before .before .before .before .before .args .out)) (c .before .before .list-from .result)) z)
 

@@ -1,52 +1,50 @@
+-- `sheet::calls::sheet_framed` meets its contract. Assumes nothing.
+use lib.ListN.{length}
+use Prim.Native.Nat.{_-_}
+use Rattle.sheet.specs.Answers.Code.{left, framed-none, framed-long, framed-last, framed-walked, between-bounds, left-leaves}
+use Rattle.sheet.specs.Answers.{sheetTold, sheetLeaves}
+use Rattle.walk.specs.Walk.{Walked}
+use Rattle.theory.specs.Records.{Record}
+use denote.Ref.{now}
+use mathlib.Core.List.{List}
+use mathlib.Core.Path.{refl, ap, _∙_}
 use native.Mathlib.Omega.{arith}
 use borrow.Author.Needs.{needs}
 use Rattle.sheet.proofs.calls.sheet_framed.Statement.{statement}
 use Rattle.sheet.proofs.calls.sheet_framed.Tie as tie
-use Rattle.sheet.proofs.calls.sheet_framed.Reads as reads
-use Rattle.sheet.proofs.calls.sheet_framed.Lts as lts
-use Rattle.sheet.proofs.bounds.high_key.Reads as high-key-reads
-use Rattle.sheet.proofs.bounds.low_key.Reads as low-key-reads
-use Rattle.sheet.proofs.calls.sheet_between.Reads as sheet-between-reads
 
--- src/calls.rt:146:9
 returns : tie.Need-returns
-returns c = search needs
+unfolding sheetLeaves
+returns c = (framed-none _ _ _ _ (c .if1 .taken), refl)
 
--- src/calls.rt:149:9
 returns-2 : tie.Need-returns-2
-returns-2 c = search needs
+unfolding sheetLeaves
+returns-2 c = (framed-long _ _ _ _ (c .if2 .taken), refl)
 
--- src/calls.rt:151:15
 sub-if3 : tie.Need-sub-if3
 sub-if3 c = search needs
 
--- src/calls.rt:151:8
 shared-slice-read-if3 : tie.Need-shared-slice-read-if3
 shared-slice-read-if3 c = search needs
 
--- src/calls.rt:152:9
 returns-3 : tie.Need-returns-3
-returns-3 c = search needs
+unfolding sheetLeaves
+returns-3 c = (framed-last _ _ _ _ (omega arith) (c .before .before .if2 .left) (c .if3 .taken), refl)
 
--- src/calls.rt:154:34
 low-key-requires : tie.Need-low-key-requires
 low-key-requires c κs = search needs
 
--- src/calls.rt:154:51
 high-key-requires : tie.Need-high-key-requires
-high-key-requires c κs = search needs
+high-key-requires c κs = (omega arith, c .before .before .before .if2 .left, omega (arith, c .before .if3 .left, c .before .before .before .before .before .before .shared-slice-known3 .given (length (c .before .before .before .before .before .before .before .before .before .args .prefix .now) - 1)))
 
--- src/calls.rt:154:5
 sheet-between-requires : tie.Need-sheet-between-requires
 sheet-between-requires c κs = search needs
 
--- src/calls.rt:130:1
 same-length : tie.Need-same-length
 same-length c = search needs
 
--- src/calls.rt:130:1
 returns-4 : tie.Need-returns-4
-returns-4 c = search needs
+returns-4 c = let z = between-bounds _ _ (now (c .before .before .before .before .before .before .before .before .before .before .before .before .before .before .args .prefix)) (c .before .before .before .before .before .low-key .ensures) (c .before .before .before .before .high-key .ensures) in (c .before .before .sheet-between .ensures .0 ∙ ap (sheetTold _) z ∙ framed-walked _ _ _ _ (omega arith) (c .before .before .before .before .before .before .before .before .if2 .left) (c .before .before .before .before .before .before .if3 .left), c .before .before .sheet-between .ensures .1 ∙ ap (λ (w : Walked (List Record) (List Record)). left w (now (c .before .before .before .before .before .before .before .before .before .before .before .before .before .before .args .out)) (c .before .before .sheet-between .result)) z ∙ left-leaves _ _ _ _ _)
 
 pub sheet-framed-spec : {M : Type 1} → statement M
 sheet-framed-spec =

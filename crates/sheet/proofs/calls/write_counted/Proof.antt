@@ -1,39 +1,29 @@
+-- `sheet::calls::write_counted` meets its contract. Assumes nothing.
 use Rattle.sheet.specs.Answers.Code.{listed-fits, listed-short, leaves-full, leaves-written}
 use lib.Seq.{length-take-le}
 use mathlib.Core.Path.{refl, sym}
-use native.Mathlib.Omega.{arith}
 use borrow.Author.Needs.{needs}
 use Rattle.sheet.proofs.calls.write_counted.Statement.{statement}
 use Rattle.sheet.proofs.calls.write_counted.Tie as tie
-use Rattle.sheet.proofs.calls.write_counted.Reads as reads
-use Rattle.sheet.proofs.calls.write_counted.Lts as lts
-use Rattle.listing.proofs.page.page_from.Reads as page-from-reads
 
--- src/calls.rt:64:13
 mul-k : tie.Need-mul-k
 mul-k c = search needs
 
--- src/calls.rt:66:56
 slice-relend-prefix-page-from : tie.Need-slice-relend-prefix-page-from
 slice-relend-prefix-page-from c = search needs
 
--- src/calls.rt:66:56
 slice-aggregate-page-from : tie.Need-slice-aggregate-page-from
 slice-aggregate-page-from c = sym (length-take-le _ _ (c .before .if1 .taken))
 
--- src/calls.rt:66:9
 page-from-requires : tie.Need-page-from-requires
 page-from-requires c κs = search needs
 
--- src/calls.rt:67:9
 same-length : tie.Need-same-length
 same-length c = search needs
 
--- src/calls.rt:67:9
 returns : tie.Need-returns
 returns c = (listed-fits _ _ (c .before .before .before .before .if1 .taken), leaves-written _ _ _ _ _ (c .before .before .page-from .last .1 .1 .1 .1 .1 .1 .1 .1 .0) refl (c .before .before .before .before .if1 .taken) (c .before .before .page-from .ensures) _)
 
--- src/calls.rt:46:1
 returns-2 : tie.Need-returns-2
 returns-2 c = (listed-short _ _ (c .if1 .left), leaves-full _ _ _ _ _ _)
 
