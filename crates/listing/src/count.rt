@@ -10,7 +10,7 @@ use walk::cursor::Cursor;
 use walk::cursor::load;
 ghost use mathlib.Core.Path.{_≡_};
 ghost use mathlib.Core.List.{[]};
-ghost use Prim.Native.Nat.{_≤_, _<_};
+ghost use Prim.Native.Nat.{_*_, _≤_, _<_};
 ghost use Rattle.tray.specs.Frame.{Starts};
 ghost use Rattle.walk.specs.Walk.{walkFrom};
 ghost use Rattle.walk.specs.Reads.{sheetVisit};
@@ -26,6 +26,7 @@ pub struct Counted {
 // The count stops.
 fn tallied(stop: Stop, count: usize) -> Counted
     ensures { λ r. ⌜ countedOf r ≡ countedAs stop count ⌝ }
+    ensures { λ r. ⌜ r .count ≡ count ⌝ }
 {
     Counted { stop, count }
 }
@@ -46,6 +47,7 @@ pub fn count_from(
     requires { ⌜ Starts (now t) (now starts) ⌝ }
     requires { ⌜ (from .segment .0 < n) × (from .selector ≤ d) ⌝ }
     ensures { λ r. ⌜ countedOf r ≡ lengths (walkFrom (now (t .entry)) (now (x .entry)) (sheetVisit (now (t .entry)) high) (spotOf from) []) ⌝ }
+    ensures { λ r. ⌜ r .count ≤ 256 * n ⌝ }
 {
     let mut count: usize = 0;
     let mut g = from.segment.0;

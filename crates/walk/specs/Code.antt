@@ -11,6 +11,7 @@ pub mod Turns
 pub mod Seek
 pub mod Stayed
 pub mod Get
+pub mod Inside
 use mathlib.Core.Path.{_≡_, refl, sym, ap, ap₂, _∙_}
 use Prim.Native.Nat.{ℕ, zero, suc, _+_, _-_, _*_, _≤_, _<_}
 use native.Mathlib.Omega.{arith}

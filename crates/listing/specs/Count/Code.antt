@@ -3,7 +3,7 @@
 --     counted-stayed, counted-ended, counted-lost         what a count says of the records
 --     visit-bound, visit-below, visit-marked              at a selector
 --     Counting                                            both loops of the count
---     counting-first, counting-inner, counting-back, counting-enter, counting-pass, counting-below, counting-marked
+--     counting-first, counting-most, counting-inner, counting-back, counting-enter, counting-pass, counting-below, counting-marked
 -- Assumes nothing.
 use mathlib.Core.Path.{_≡_, refl, sym, ap, ap₂, _∙_}
 use Prim.Native.Nat.{ℕ, _+_, _*_, _%_, _≤_, _<_}
@@ -106,6 +106,10 @@ pub counting-first : (t x : List ℕ) (high : ℕ) {d n g s : ℕ} (places : Lis
 counting-first t x high places count l k r f = record { here = here-first t x (tallyVisit t high) places count l k r; few = f }
 
 module _ {t x : List ℕ} {high d n g₀ s₀ : ℕ} {places₀ : List Place} {count₀ g s : ℕ} {places : List Place} {count : ℕ} (i : Counting t x high d n g₀ s₀ places₀ count₀ g s places count) where
+  -- at most one record a selector was counted
+  pub counting-most : d < 256 → {count′ : ℕ} → count′ ≡ count → count′ ≤ 256 * n
+  counting-most b e = let f = i .few in let a = i .here .on .high in let k = i .here .on .inside in omega arith
+
   -- the loop over selectors begins
   pub counting-inner : Counting t x high d n g s places count g s places count
   counting-inner = record { here = here-inner (i .here); few = i .few }

@@ -1,6 +1,7 @@
 -- What the code of get needs of the definitions.
 --     valueIf, nothingAt            what the code's parts answer
 --     InTray, seek-named            a record found is one of the tray's
+--     came                          what the code's walk hands over is where the seek came to
 --     got-value, got-nothing        what get came to
 -- Assumes nothing.
 use mathlib.Core.Path.{_≡_, refl, sym, ap, ap₂, _∙_, subst}
@@ -19,6 +20,7 @@ use Rattle.tray.specs.Frame.{runCount, countOf, runBytes}
 use Rattle.tray.specs.Run.{recordAt}
 use Rattle.refusal.specs.declared.Refusal.the-variants.{Lost}
 use Rattle.number.specs.Big.{bytesOf}
+use Rattle.index.specs.Layout.{sizeOf}
 use Rattle.index.specs.Scan.{runIn}
 use Rattle.walk.specs.declared.cursor.Sight.{Sight}
 use Rattle.walk.specs.declared.cursor.Sight.the-variants.{Found as SightFound, End as SightEnd, Lost as SightLost}
@@ -63,9 +65,9 @@ pub record InTray (t : List ℕ) (f : Found) : Type 0 where
   pub run-below : f .run < runCount t
   pub place-below : f .place < countOf t (f .run)
 
-stay-named : (t : List ℕ) (key v : ℕ) (c : Spot) (st : ℕ) (f : Found) → named t (c .places) v ≡ true → seekVisit t key v c st ≡ stay f → InTray t f
+stay-named : (t x : List ℕ) (key n v : ℕ) (c : Spot) (st : ℕ) (f : Found) → c .segment < n → c .selector < sizeOf x → named t (c .places) v ≡ true → seekVisit t key v c st ≡ stay f → InTray t f
 unfolding seekVisit foundBy named
-stay-named t key v c st f there e =
+stay-named t x key n v c st f low inside there e =
     cases (unmarked v && leb key (recordBy t v c .key))
     (λ y. subst (InTray t) (same (rw y at e))
     (record {
@@ -81,12 +83,12 @@ stay-named t key v c st f there e =
     other z = cc
 
 pub seek-named : (t x : List ℕ) (key k g : ℕ) {f : Found} → walkSegments t x (seekVisit t key) k g 0 ≡ stayed f → InTray t f
-seek-named t x key k g {f} e = segments-stayed t x (seekVisit t key) (InTray t) (stay-named t key) k g 0 f e
+seek-named t x key k g {f} e = segments-stayed t x (seekVisit t key) (InTray t) (g + k) (stay-named t x key (g + k)) k g 0 f (omega arith) e
 
--- what the code's walk hands over is where get's seek came to
+-- what the code's walk hands over is where the seek came to
 module _ (t x : List ℕ) (key : ℕ) {h d n g : ℕ} {counts : List ℕ} (s : Sought) (w : Walking t x h d n counts) (e : g ≡ start h x key)
     (walked : soughtOf s ≡ walkSegments t x (seekVisit t key) (n - g) g 0) where
-  came : soughtAs (s .sight) (spotOf (s .cursor)) ≡ seek t x key
+  pub came : soughtAs (s .sight) (spotOf (s .cursor)) ≡ seek t x key
   unfolding soughtOf seek
   came =
       walked

@@ -9,7 +9,7 @@ use Rattle.walk.specs.Code.Seek.{stays-run, stays-place}
 use Rattle.walk.specs.Code.Turns.{within, selector-is, here-end}
 use Rattle.listing.specs.Steps.{onward-from, here-no-run, here-no-place, here-stay}
 use Rattle.listing.specs.Count.{countedAs}
-use Rattle.listing.specs.Count.Code.{tallyVisit, tally-is, visit-bound, Counting, counting-first, counting-inner, counting-back, counting-enter, counting-pass, counting-marked, counting-below}
+use Rattle.listing.specs.Count.Code.{tallyVisit, tally-is, visit-bound, Counting, counting-first, counting-inner, counting-back, counting-most, counting-enter, counting-pass, counting-marked, counting-below}
 use native.Mathlib.Omega.{arith}
 use borrow.Author.Needs.{needs}
 use Rattle.listing.proofs.count.count_from.Statement.{statement}
@@ -161,19 +161,19 @@ walk-again c = counting-enter (counting-back (c .before .before .before .before 
 
 returns : tie.Need-returns Inv-loop μ-loop Inv-walk μ-walk
 unfolding countedAs
-returns c = c .tallied .ensures ∙ here-stay (c .before .before .before .before .before .before .before .before .before .before .before .before .before .before .before .before .before .before .before .before .before .before .before .before .pre .0) ((counting-back (c .before .before .before .before .before .before .before .before .before .before .before .before .before .before .before .before .walk .inv) (c .before .before .before .before .before .before .before .before .before .before .before .before .before .loop .inv)) .here) (omega (arith, c .before .before .before .before .before .before .before .before .before .before .before .before .before .before .before .before .before .before .before .wide-size .ensures, c .before .before .before .before .before .before .before .before .before .before .before .before .loop-test .taken)) (selector-is (c .before .before .before .before .before .before .before .before .before .before .before .before .before .before .before .before .before .before .before .before .before .before .before .before .pre .0) _ _ (c .before .before .before .before .before .before .before .before .before .before .before .before .before .before .before .segment-at .ensures) (omega (arith, c .before .before .before .before .before .before .before .before .before .before .before .before .before .before .wide-size3 .ensures)) refl) (c .before .before .before .before .before .before .before .before .before .before .if1 .left) (c .before .before .before .before .before .before .before .before .before .if2 .taken) (c .before .before .before .before .before .before .before .before .wide-size4 .ensures) (c .before .before .before .before .before .if3 .taken) (visit-bound (c .before .before .before .before .before .before .before .before .before .before .before .before .before .before .before .before .before .before .before .before .before .before .before .before .pre .0) _ (c .before .before .before .before .before .before .before .before .before .before .before .before .before .loop .places) (c .before .before .before .before .before .before .before .before .before .if2 .taken) (c .before .before .before .before .before .before .before .before .wide-size4 .ensures) _ _ _ _ (c .before .before .before .before .if4 .taken) (c .before .before .before .head-of .ensures .key) (c .before .if5 .taken)) ∙ onward-from (c .before .before .before .before .before .before .before .before .before .before .before .before .before .before .before .before .before .before .before .before .before .before .before .before .pre .0) (tallyVisit _ _) (c .before .before .before .before .before .before .before .before .before .before .before .before .before .before .before .before .before .before .before .before .before .before .before .before .args .from) 0 (c .before .before .before .before .before .before .before .before .before .before .before .before .before .before .before .before .before .before .wide-size2 .ensures) (c .before .before .before .before .before .before .before .before .before .before .before .before .before .before .before .before .before .before .before .before .before .before .before .before .pre .1 .1 .0) ∙ tally-is _ _ _ (spotOf (c .before .before .before .before .before .before .before .before .before .before .before .before .before .before .before .before .before .before .before .before .before .before .before .before .args .from)) []
+returns c = (c .tallied .ensures .0 ∙ here-stay (c .before .before .before .before .before .before .before .before .before .before .before .before .before .before .before .before .before .before .before .before .before .before .before .before .pre .0) ((counting-back (c .before .before .before .before .before .before .before .before .before .before .before .before .before .before .before .before .walk .inv) (c .before .before .before .before .before .before .before .before .before .before .before .before .before .loop .inv)) .here) (omega (arith, c .before .before .before .before .before .before .before .before .before .before .before .before .before .before .before .before .before .before .before .wide-size .ensures, c .before .before .before .before .before .before .before .before .before .before .before .before .loop-test .taken)) (selector-is (c .before .before .before .before .before .before .before .before .before .before .before .before .before .before .before .before .before .before .before .before .before .before .before .before .pre .0) _ _ (c .before .before .before .before .before .before .before .before .before .before .before .before .before .before .before .segment-at .ensures) (omega (arith, c .before .before .before .before .before .before .before .before .before .before .before .before .before .before .wide-size3 .ensures)) refl) (c .before .before .before .before .before .before .before .before .before .before .if1 .left) (c .before .before .before .before .before .before .before .before .before .if2 .taken) (c .before .before .before .before .before .before .before .before .wide-size4 .ensures) (c .before .before .before .before .before .if3 .taken) (visit-bound (c .before .before .before .before .before .before .before .before .before .before .before .before .before .before .before .before .before .before .before .before .before .before .before .before .pre .0) _ (c .before .before .before .before .before .before .before .before .before .before .before .before .before .loop .places) (c .before .before .before .before .before .before .before .before .before .if2 .taken) (c .before .before .before .before .before .before .before .before .wide-size4 .ensures) _ _ _ _ (c .before .before .before .before .if4 .taken) (c .before .before .before .head-of .ensures .key) (c .before .if5 .taken)) ∙ onward-from (c .before .before .before .before .before .before .before .before .before .before .before .before .before .before .before .before .before .before .before .before .before .before .before .before .pre .0) (tallyVisit _ _) (c .before .before .before .before .before .before .before .before .before .before .before .before .before .before .before .before .before .before .before .before .before .before .before .before .args .from) 0 (c .before .before .before .before .before .before .before .before .before .before .before .before .before .before .before .before .before .before .wide-size2 .ensures) (c .before .before .before .before .before .before .before .before .before .before .before .before .before .before .before .before .before .before .before .before .before .before .before .before .pre .1 .1 .0) ∙ tally-is _ _ _ (spotOf (c .before .before .before .before .before .before .before .before .before .before .before .before .before .before .before .before .before .before .before .before .before .before .before .before .args .from)) [], counting-most (c .before .before .before .before .before .before .before .before .before .before .before .before .before .loop .inv) (omega arith) (c .tallied .ensures .1))
 
 returns-2 : tie.Need-returns-2 Inv-loop μ-loop Inv-walk μ-walk
 unfolding countedAs
-returns-2 c = c .tallied2 .ensures ∙ here-no-place (c .before .before .before .before .before .before .before .before .before .before .before .before .before .before .before .before .before .before .before .before .pre .0) ((counting-back (c .before .before .before .before .before .before .before .before .before .before .before .before .walk .inv) (c .before .before .before .before .before .before .before .before .before .loop .inv)) .here) (omega (arith, c .before .before .before .before .before .before .before .before .before .before .before .before .before .before .before .wide-size .ensures, c .before .before .before .before .before .before .before .before .loop-test .taken)) (selector-is (c .before .before .before .before .before .before .before .before .before .before .before .before .before .before .before .before .before .before .before .before .pre .0) _ _ (c .before .before .before .before .before .before .before .before .before .before .before .segment-at .ensures) (omega (arith, c .before .before .before .before .before .before .before .before .before .before .wide-size3 .ensures)) refl) (c .before .before .before .before .before .before .if1 .left) (c .before .before .before .before .before .if2 .taken) (c .before .before .before .before .wide-size4 .ensures) (c .before .if3 .left) ∙ onward-from (c .before .before .before .before .before .before .before .before .before .before .before .before .before .before .before .before .before .before .before .before .pre .0) (tallyVisit _ _) (c .before .before .before .before .before .before .before .before .before .before .before .before .before .before .before .before .before .before .before .before .args .from) 0 (c .before .before .before .before .before .before .before .before .before .before .before .before .before .before .wide-size2 .ensures) (c .before .before .before .before .before .before .before .before .before .before .before .before .before .before .before .before .before .before .before .before .pre .1 .1 .0) ∙ tally-is _ _ _ (spotOf (c .before .before .before .before .before .before .before .before .before .before .before .before .before .before .before .before .before .before .before .before .args .from)) []
+returns-2 c = (c .tallied2 .ensures .0 ∙ here-no-place (c .before .before .before .before .before .before .before .before .before .before .before .before .before .before .before .before .before .before .before .before .pre .0) ((counting-back (c .before .before .before .before .before .before .before .before .before .before .before .before .walk .inv) (c .before .before .before .before .before .before .before .before .before .loop .inv)) .here) (omega (arith, c .before .before .before .before .before .before .before .before .before .before .before .before .before .before .before .wide-size .ensures, c .before .before .before .before .before .before .before .before .loop-test .taken)) (selector-is (c .before .before .before .before .before .before .before .before .before .before .before .before .before .before .before .before .before .before .before .before .pre .0) _ _ (c .before .before .before .before .before .before .before .before .before .before .before .segment-at .ensures) (omega (arith, c .before .before .before .before .before .before .before .before .before .before .wide-size3 .ensures)) refl) (c .before .before .before .before .before .before .if1 .left) (c .before .before .before .before .before .if2 .taken) (c .before .before .before .before .wide-size4 .ensures) (c .before .if3 .left) ∙ onward-from (c .before .before .before .before .before .before .before .before .before .before .before .before .before .before .before .before .before .before .before .before .pre .0) (tallyVisit _ _) (c .before .before .before .before .before .before .before .before .before .before .before .before .before .before .before .before .before .before .before .before .args .from) 0 (c .before .before .before .before .before .before .before .before .before .before .before .before .before .before .wide-size2 .ensures) (c .before .before .before .before .before .before .before .before .before .before .before .before .before .before .before .before .before .before .before .before .pre .1 .1 .0) ∙ tally-is _ _ _ (spotOf (c .before .before .before .before .before .before .before .before .before .before .before .before .before .before .before .before .before .before .before .before .args .from)) [], counting-most (c .before .before .before .before .before .before .before .before .before .loop .inv) (omega arith) (c .tallied2 .ensures .1))
 
 returns-3 : tie.Need-returns-3 Inv-loop μ-loop Inv-walk μ-walk
 unfolding countedAs
-returns-3 c = c .tallied3 .ensures ∙ here-no-run (c .before .before .before .before .before .before .before .before .before .before .before .before .before .before .before .before .pre .0) ((counting-back (c .before .before .before .before .before .before .before .before .walk .inv) (c .before .before .before .before .before .loop .inv)) .here) (omega (arith, c .before .before .before .before .before .before .before .before .before .before .before .wide-size .ensures, c .before .before .before .before .loop-test .taken)) (selector-is (c .before .before .before .before .before .before .before .before .before .before .before .before .before .before .before .before .pre .0) _ _ (c .before .before .before .before .before .before .before .segment-at .ensures) (omega (arith, c .before .before .before .before .before .before .wide-size3 .ensures)) refl) (c .before .before .if1 .left) (c .before .if2 .left) ∙ onward-from (c .before .before .before .before .before .before .before .before .before .before .before .before .before .before .before .before .pre .0) (tallyVisit _ _) (c .before .before .before .before .before .before .before .before .before .before .before .before .before .before .before .before .args .from) 0 (c .before .before .before .before .before .before .before .before .before .before .wide-size2 .ensures) (c .before .before .before .before .before .before .before .before .before .before .before .before .before .before .before .before .pre .1 .1 .0) ∙ tally-is _ _ _ (spotOf (c .before .before .before .before .before .before .before .before .before .before .before .before .before .before .before .before .args .from)) []
+returns-3 c = (c .tallied3 .ensures .0 ∙ here-no-run (c .before .before .before .before .before .before .before .before .before .before .before .before .before .before .before .before .pre .0) ((counting-back (c .before .before .before .before .before .before .before .before .walk .inv) (c .before .before .before .before .before .loop .inv)) .here) (omega (arith, c .before .before .before .before .before .before .before .before .before .before .before .wide-size .ensures, c .before .before .before .before .loop-test .taken)) (selector-is (c .before .before .before .before .before .before .before .before .before .before .before .before .before .before .before .before .pre .0) _ _ (c .before .before .before .before .before .before .before .segment-at .ensures) (omega (arith, c .before .before .before .before .before .before .wide-size3 .ensures)) refl) (c .before .before .if1 .left) (c .before .if2 .left) ∙ onward-from (c .before .before .before .before .before .before .before .before .before .before .before .before .before .before .before .before .pre .0) (tallyVisit _ _) (c .before .before .before .before .before .before .before .before .before .before .before .before .before .before .before .before .args .from) 0 (c .before .before .before .before .before .before .before .before .before .before .wide-size2 .ensures) (c .before .before .before .before .before .before .before .before .before .before .before .before .before .before .before .before .pre .1 .1 .0) ∙ tally-is _ _ _ (spotOf (c .before .before .before .before .before .before .before .before .before .before .before .before .before .before .before .before .args .from)) [], counting-most (c .before .before .before .before .before .loop .inv) (omega arith) (c .tallied3 .ensures .1))
 
 returns-4 : tie.Need-returns-4 Inv-loop μ-loop Inv-walk μ-walk
 unfolding countedAs
-returns-4 c = c .tallied4 .ensures ∙ here-end (c .before .before .before .before .before .before .before .before .before .before .before .before .before .before .pre .0) ((counting-back (c .before .before .before .before .before .before .walk .inv) (c .before .before .before .loop .inv)) .here) (omega (arith, c .before .before .before .before .before .before .before .before .before .wide-size .ensures, c .before .before .loop-test .left)) (omega arith) ∙ onward-from (c .before .before .before .before .before .before .before .before .before .before .before .before .before .before .pre .0) (tallyVisit _ _) (c .before .before .before .before .before .before .before .before .before .before .before .before .before .before .args .from) 0 (c .before .before .before .before .before .before .before .before .wide-size2 .ensures) (c .before .before .before .before .before .before .before .before .before .before .before .before .before .before .pre .1 .1 .0) ∙ tally-is _ _ _ (spotOf (c .before .before .before .before .before .before .before .before .before .before .before .before .before .before .args .from)) []
+returns-4 c = (c .tallied4 .ensures .0 ∙ here-end (c .before .before .before .before .before .before .before .before .before .before .before .before .before .before .pre .0) ((counting-back (c .before .before .before .before .before .before .walk .inv) (c .before .before .before .loop .inv)) .here) (omega (arith, c .before .before .before .before .before .before .before .before .before .wide-size .ensures, c .before .before .loop-test .left)) (omega arith) ∙ onward-from (c .before .before .before .before .before .before .before .before .before .before .before .before .before .before .pre .0) (tallyVisit _ _) (c .before .before .before .before .before .before .before .before .before .before .before .before .before .before .args .from) 0 (c .before .before .before .before .before .before .before .before .wide-size2 .ensures) (c .before .before .before .before .before .before .before .before .before .before .before .before .before .before .pre .1 .1 .0) ∙ tally-is _ _ _ (spotOf (c .before .before .before .before .before .before .before .before .before .before .before .before .before .before .args .from)) [], counting-most (c .before .before .before .loop .inv) (omega arith) (c .tallied4 .ensures .1))
 
 pub count-from-spec : {M : Type 1} → statement M
 count-from-spec =

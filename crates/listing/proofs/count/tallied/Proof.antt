@@ -6,7 +6,7 @@ use Rattle.listing.proofs.count.tallied.Tie as tie
 
 returns : tie.Need-returns
 unfolding countedOf
-returns c = refl
+returns c = (refl, refl)
 
 pub tallied-spec : {M : Type 1} → statement M
 tallied-spec = tie.close (tie.spec returns)

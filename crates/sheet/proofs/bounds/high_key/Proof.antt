@@ -1,0 +1,46 @@
+-- `sheet::bounds::high_key` meets its contract. Assumes nothing.
+use lib.ListN.{length, getD, length-set}
+use Prim.Native.Nat.{_+_, _-_}
+use Rattle.sheet.specs.Bounds.{high-set, filled-long}
+use mathlib.Core.Path.{refl, _∙_}
+use native.Mathlib.Omega.{arith}
+use borrow.Author.Needs.{needs}
+use Rattle.sheet.proofs.bounds.high_key.Statement.{statement}
+use Rattle.sheet.proofs.bounds.high_key.Tie as tie
+
+sub-last : tie.Need-sub-last
+sub-last c = search needs
+
+filled-requires : tie.Need-filled-requires
+filled-requires c κs = search needs
+
+shared-slice-read-key : tie.Need-shared-slice-read-key
+shared-slice-read-key c = search needs
+
+add-key : tie.Need-add-key
+add-key c = search needs
+
+array-write-key : tie.Need-array-write-key
+array-write-key c = search needs
+
+slice-aggregate-big8 : tie.Need-slice-aggregate-big8
+slice-aggregate-big8 c = search needs
+
+big8-requires : tie.Need-big8-requires
+big8-requires c κs = omega (arith, length-set (c .before .before .filled .result) (length (c .before .before .before .before .args .prefix .now) - 1) (getD (c .before .before .before .before .args .prefix .now) (length (c .before .before .before .before .args .prefix .now) - 1) 0 + 1), filled-long (c .before .before .before .before .args .prefix .now) (c .before .before .before .before .pre .1) (c .before .before .filled .ensures))
+
+returns : tie.Need-returns
+returns c = c .big8 .ensures ∙ high-set _ (c .before .before .before .before .before .pre .0) (c .before .before .before .before .before .pre .1) refl (c .before .before .before .filled .ensures)
+
+pub high-key-spec : {M : Type 1} → statement M
+high-key-spec =
+    tie.close
+    (tie.spec
+    sub-last
+    filled-requires
+    shared-slice-read-key
+    add-key
+    array-write-key
+    slice-aggregate-big8
+    big8-requires
+    returns)

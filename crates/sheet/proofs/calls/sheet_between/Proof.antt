@@ -1,0 +1,72 @@
+-- `sheet::calls::sheet_between` meets its contract. Assumes nothing.
+use Rattle.sheet.specs.Answers.Code.{left, between-is, between-none, none-left}
+use Rattle.sheet.specs.Answers.{sheetTold}
+use Rattle.walk.specs.Code.Get.{not-found}
+use Rattle.walk.specs.Walk.{Walked}
+use Rattle.walk.proofs.cursor.Sight.{the-type}
+use Rattle.walk.specs.declared.cursor.Sight.{Sight}
+use Rattle.theory.specs.Records.{Record}
+use denote.Enum.Declared.{tagOf}
+use denote.Ref.{now}
+use types.Run.{OneOf}
+use mathlib.Core.List.{List, [], _∷_}
+use Rattle.walk.specs.Code.Inside.{seek-inside}
+use Rattle.walk.specs.Answers.Code.{walking}
+use mathlib.Core.Path.{sym, ap, subst, _∙_}
+use native.Mathlib.Omega.{arith}
+use borrow.Author.Needs.{needs}
+use Rattle.sheet.proofs.calls.sheet_between.Statement.{statement}
+use Rattle.sheet.proofs.calls.sheet_between.Tie as tie
+
+start-at-requires : tie.Need-start-at-requires
+start-at-requires c κs = (walking (c .before .before .before .before .before .pre .0) (c .before .before .before .before .before .pre .1)) .index
+
+slice-aggregate-seek-from : tie.Need-slice-aggregate-seek-from
+slice-aggregate-seek-from c = sym (c .before .before .before .before .before .before .before .pre .0 .room)
+
+slice-aggregate-seek-from-2 : tie.Need-slice-aggregate-seek-from-2
+slice-aggregate-seek-from-2 c = sym (c .before .before .before .before .before .before .before .before .pre .0 .at .room)
+
+seek-from-requires : tie.Need-seek-from-requires
+seek-from-requires c κs = ((walking (c .before .before .before .before .before .before .before .before .pre .0) (c .before .before .before .before .before .before .before .before .pre .1)), c .before .before .before .before .before .before .before .before .pre .0 .at)
+
+enum-known-sight : tie.Need-enum-known-sight
+enum-known-sight c = search needs
+
+found-nothing-requires : tie.Need-found-nothing-requires
+found-nothing-requires c κs = search needs
+
+returns : tie.Need-returns
+returns c = (between-none _ _ _ _ (walking (c .before .before .before .before .before .before .before .before .before .before .before .pre .0) (c .before .before .before .before .before .before .before .before .before .before .before .pre .1)) (c .before .before .before .before .before .start-at .ensures) (c .before .before .seek-from .ensures) _ (λ run place z. not-found (subst (λ (s : Sight). OneOf (1 ∷ 2 ∷ []) (tagOf the-type s)) z (c .before .match .keys2))) _ (c .found-nothing .ensures), none-left _ _ _ _ (walking (c .before .before .before .before .before .before .before .before .before .before .before .pre .0) (c .before .before .before .before .before .before .before .before .before .before .before .pre .1)) (c .before .before .before .before .before .start-at .ensures) (c .before .before .seek-from .ensures) _ (λ run place z. not-found (subst (λ (s : Sight). OneOf (1 ∷ 2 ∷ []) (tagOf the-type s)) z (c .before .match .keys2))) _ (c .found-nothing .ensures))
+
+slice-aggregate-list-from : tie.Need-slice-aggregate-list-from
+slice-aggregate-list-from c = sym (c .before .before .before .before .before .before .before .before .before .before .before .before .before .before .pre .0 .room)
+
+slice-aggregate-list-from-2 : tie.Need-slice-aggregate-list-from-2
+slice-aggregate-list-from-2 c = sym (c .before .before .before .before .before .before .before .before .before .before .before .before .before .before .before .pre .0 .at .room)
+
+list-from-requires : tie.Need-list-from-requires
+list-from-requires c κs = let z = seek-inside _ _ _ _ _ (walking (c .before .before .before .before .before .before .before .before .before .before .before .before .before .before .before .before .pre .0) (c .before .before .before .before .before .before .before .before .before .before .before .before .before .before .before .before .pre .1)) (c .before .before .before .before .before .before .before .seek-from .ensures) (c .before .before .before .before .before .sight .given .1) in ((walking (c .before .before .before .before .before .before .before .before .before .before .before .before .before .before .before .before .pre .0) (c .before .before .before .before .before .before .before .before .before .before .before .before .before .before .before .before .pre .1)), (c .before .before .before .before .before .before .before .before .before .before .before .before .before .before .before .before .pre .0 .at, (z .0, omega (arith, z .1))))
+
+same-length : tie.Need-same-length
+same-length c = search needs
+
+returns-2 : tie.Need-returns-2
+returns-2 c = let z = between-is _ _ _ _ (walking (c .before .before .before .before .before .before .before .before .before .before .before .before .before .before .before .before .before .before .before .pre .0) (c .before .before .before .before .before .before .before .before .before .before .before .before .before .before .before .before .before .before .before .pre .1)) (c .before .before .before .before .before .before .before .before .before .before .before .before .before .start-at .ensures) (c .before .before .before .before .before .before .before .before .before .before .seek-from .ensures) _ (c .before .before .before .before .before .before .before .before .sight .given .1) in (c .before .before .list-from .ensures .0 ∙ ap (sheetTold _) z, c .before .before .list-from .ensures .1 ∙ ap (λ (w : Walked (List Record) (List Record)). left w (now (c .before .before .before .before .before .before .before .before .before .before .before .before .before .before .before .before .before .before .before .args .out)) (c .before .before .list-from .result)) z)
+
+pub sheet-between-spec : {M : Type 1} → statement M
+sheet-between-spec =
+    tie.close
+    (tie.spec
+    start-at-requires
+    slice-aggregate-seek-from
+    slice-aggregate-seek-from-2
+    seek-from-requires
+    enum-known-sight
+    found-nothing-requires
+    returns
+    slice-aggregate-list-from
+    slice-aggregate-list-from-2
+    list-from-requires
+    same-length
+    returns-2)

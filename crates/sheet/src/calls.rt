@@ -1,0 +1,174 @@
+// The call sheet: it tests the frames, the prefix and every place that it follows, and writes only once it is sure.
+use crate::bounds::high_key;
+use crate::bounds::low_key;
+use index::frame::IndexFrame;
+use index::frame::index_frame;
+use listing::count::count_from;
+use listing::page::Stop;
+use listing::page::page_from;
+use refusal::Refusal;
+use tray::frame::TrayFrame;
+use tray::frame::tray_frame;
+use walk::begin::start_at;
+use walk::cursor::Cursor;
+use walk::cursor::Sight;
+use walk::seek::seek_from;
+ghost use mathlib.Core.Path.{_≡_};
+ghost use mathlib.Core.List.{[]};
+ghost use Prim.Native.Nat.{_*_, _-_, _≤_, _<_};
+ghost use lib.ListN.{length, getD};
+ghost use Rattle.tray.specs.Frame.{Starts, Opened};
+ghost use Rattle.index.specs.Layout.Code.{Laid};
+ghost use Rattle.walk.specs.Walk.{walkFrom};
+ghost use Rattle.walk.specs.Reads.{seek, sheetVisit, sheetFrom};
+ghost use Rattle.walk.specs.Code.{Walking, spotOf};
+ghost use Rattle.sheet.specs.Answers.{listedIn, sheetTold, sheetFramed, sheetAnswer, sheetLeaves};
+ghost use Rattle.sheet.specs.Answers.Code.{listedAs, Leaves, left, nothingAt};
+
+// How many records were listed, or why none were.
+pub enum SheetAnswer {
+    Listed(u64),
+    Refused(Refusal),
+}
+
+// A seek that found nothing: an empty sheet at the end, refused where it is lost.
+fn found_nothing(sight: Sight) -> SheetAnswer
+    ensures { λ r. ⌜ r ≡ nothingAt sight ⌝ }
+{
+    match sight {
+        Sight::Lost(g, s) => SheetAnswer::Refused(Refusal::Lost(g, s)),
+        Sight::End => SheetAnswer::Listed(0),
+        Sight::Found(_, _) => SheetAnswer::Listed(0),
+    }
+}
+
+// The second pass: so many records from a cursor on, where the output has room for them, through a stretch of just their length.
+fn write_counted(
+    t: &[u8],
+    x: &[u8],
+    h: u8,
+    d: u8,
+    n: u32,
+    counts: &[u16],
+    starts: &[usize],
+    from: Cursor,
+    count: usize,
+    out: &mut [u8],
+) -> SheetAnswer
+    requires { ⌜ Walking (now t) (now x) h d n (now counts) ⌝ }
+    requires { ⌜ Starts (now t) (now starts) ⌝ }
+    requires { ⌜ (from .segment .0 < n) × (from .selector ≤ d) × (count ≤ 256 * n) ⌝ }
+    ensures { λ r. ⌜ r ≡ listedAs (length (now (out .entry))) count ⌝ }
+    ensures { λ r. ⌜ Leaves (now (t .entry)) (now (x .entry)) (spotOf from) count (now (out .entry)) (now (out .exit)) r ⌝ }
+{
+    let k = 24 * count;
+    if k <= out.len() {
+        page_from(t, x, h, d, n, counts, starts, from, &mut out[..k]);
+        return SheetAnswer::Listed(count as u64);
+    }
+    SheetAnswer::Refused(Refusal::Room(k as u64))
+}
+
+// Both passes, from the record found on: the first counts and writes nothing.
+fn list_from(
+    t: &[u8],
+    x: &[u8],
+    h: u8,
+    d: u8,
+    n: u32,
+    counts: &[u16],
+    starts: &[usize],
+    from: Cursor,
+    high: u64,
+    out: &mut [u8],
+) -> SheetAnswer
+    requires { ⌜ Walking (now t) (now x) h d n (now counts) ⌝ }
+    requires { ⌜ Starts (now t) (now starts) ⌝ }
+    requires { ⌜ (from .segment .0 < n) × (from .selector ≤ d) ⌝ }
+    ensures { λ r. ⌜ r ≡ sheetTold (length (now (out .entry))) (walkFrom (now (t .entry)) (now (x .entry)) (sheetVisit (now (t .entry)) high) (spotOf from) []) ⌝ }
+    ensures { λ r. ⌜ now (out .exit) ≡ left (walkFrom (now (t .entry)) (now (x .entry)) (sheetVisit (now (t .entry)) high) (spotOf from) []) (now (out .entry)) r ⌝ }
+{
+    let counted = count_from(t, x, h, d, n, counts, starts, from, high);
+    let stop = counted.stop;
+    match stop {
+        Stop::Lost(g, s) => SheetAnswer::Refused(Refusal::Lost(g, s)),
+        Stop::More => write_counted(t, x, h, d, n, counts, starts, from, counted.count, out),
+        Stop::End => write_counted(t, x, h, d, n, counts, starts, from, counted.count, out),
+    }
+}
+
+// Sheet between two bounds, where both frames fit.
+fn sheet_between(
+    t: &[u8],
+    x: &[u8],
+    f: TrayFrame,
+    d: u8,
+    n: u32,
+    low: u64,
+    high: u64,
+    out: &mut [u8],
+) -> SheetAnswer
+    requires { ⌜ Opened (now t) f ⌝ }
+    requires { ⌜ Laid (now t) (now x) d n ⌝ }
+    ensures { λ r. ⌜ r ≡ sheetTold (length (now (out .entry))) (sheetFrom (now (t .entry)) (now (x .entry)) high (seek (now (t .entry)) (now (x .entry)) low)) ⌝ }
+    ensures { λ r. ⌜ now (out .exit) ≡ left (sheetFrom (now (t .entry)) (now (x .entry)) high (seek (now (t .entry)) (now (x .entry)) low)) (now (out .entry)) r ⌝ }
+{
+    let h = f.runs;
+    let counts = f.counts;
+    let starts = f.starts;
+    let g = start_at(x, h, d, n, low);
+    let sought = seek_from(t, x, h, d, n, &counts, &starts, g, low);
+    let sight = sought.sight;
+    let Sight::Found(_run, _place) = sight else {
+        return found_nothing(sight);
+    };
+    let cursor = sought.cursor;
+    list_from(t, x, h, d, n, &counts, &starts, cursor, high, out)
+}
+
+// Sheet where both frames fit: 8, then 9, then the walk.
+fn sheet_framed(
+    t: &[u8],
+    x: &[u8],
+    f: TrayFrame,
+    d: u8,
+    n: u32,
+    prefix: &[u8],
+    out: &mut [u8],
+) -> SheetAnswer
+    requires { ⌜ Opened (now t) f ⌝ }
+    requires { ⌜ Laid (now t) (now x) d n ⌝ }
+    ensures { λ r. ⌜ r ≡ sheetFramed (now (t .entry)) (now (x .entry)) (now (prefix .entry)) (length (now (out .entry))) ⌝ }
+    ensures { λ r. ⌜ now (out .exit) ≡ sheetLeaves (now (t .entry)) (now (x .entry)) (now (prefix .entry)) (now (out .entry)) r ⌝ }
+{
+    let k = prefix.len();
+    if k == 0 {
+        return SheetAnswer::Refused(Refusal::Bounds(0));
+    }
+    if 8 < k {
+        return SheetAnswer::Refused(Refusal::Bounds(k as u64));
+    }
+    if prefix[k - 1] == 255 {
+        return SheetAnswer::Refused(Refusal::PrefixEnd(k as u64));
+    }
+    sheet_between(t, x, f, d, n, low_key(prefix), high_key(prefix), out)
+}
+
+// Sheet: the records whose key begins with a prefix, 24 bytes each; refusals 1, 4, 8, 9, 10, 7. After a refusal the output is as it was.
+pub fn sheet(t: &[u8], x: &[u8], prefix: &[u8], out: &mut [u8]) -> SheetAnswer
+    ensures { λ r. ⌜ r ≡ sheetAnswer (now (t .entry)) (now (x .entry)) (now (prefix .entry)) (length (now (out .entry))) ⌝ }
+    ensures { λ r. ⌜ now (out .exit) ≡ sheetLeaves (now (t .entry)) (now (x .entry)) (now (prefix .entry)) (now (out .entry)) r ⌝ }
+{
+    let f = tray_frame(t);
+    if f.fits {
+        match index_frame(x, f.runs) {
+            IndexFrame::Fits(d, n) => {
+                return sheet_framed(t, x, f, d, n, prefix, out);
+            }
+            IndexFrame::Wrong => {
+                return SheetAnswer::Refused(Refusal::IndexFrame);
+            }
+        }
+    }
+    SheetAnswer::Refused(Refusal::TrayFrame)
+}
