@@ -4,14 +4,17 @@
 --     get-answers                 get's answer
 --     Point, pointAt, seek-answers     the record that seek finds, by key and value
 --     onward, onward-are          the visible records from a key on
+--     prefixed, sheet-answers, sheet-records     sheet's answer, and the records that it lists
 -- Assumes nothing.
 use mathlib.Core.Path.{_≡_, refl, sym, ap, _∙_, subst}
 use Prim.Native.Nat.{ℕ}
 use mathlib.Core.Bool.{Bool, true, cond}
 use mathlib.Core.List.{List, [], _∷_, map}
+use lib.ListN.{length}
 use lib.Dec.{leb}
 use Rattle.number.specs.Big.{be}
 use Rattle.refusal.specs.declared.Refusal.{Refusal}
+use Rattle.refusal.specs.declared.Refusal.the-variants.{Bounds, PrefixEnd}
 use Rattle.theory.specs.Lists.{here}
 use Rattle.theory.specs.Records.{Record}
 use Rattle.theory.specs.Rising.{All, keep}
@@ -24,13 +27,17 @@ use Rattle.index.specs.Layout.Laws.{fits-index}
 use Rattle.walk.specs.declared.get.Gets.{Gets}
 use Rattle.walk.specs.declared.calls.SeekAnswer.{SeekAnswer}
 use Rattle.walk.specs.declared.calls.SeekAnswer.the-variants.{Found, End, Refused}
-use Rattle.walk.specs.Walk.{stayed, ended}
+use Rattle.walk.specs.Walk.{Walked, stayed, ended}
 use Rattle.walk.specs.Walk.Spots.{Reading, Stop}
 use Rattle.walk.specs.Walk.Tours.{firstOf}
-use Rattle.walk.specs.Reads.{get, seek}
+use Rattle.walk.specs.Reads.{get, seek, lowKey, highKey, sheet}
 use Rattle.walk.specs.Reads.Kept.{keep-map}
 use Rattle.walk.specs.Reads.Shown.{foundAt, pointOf, shown, Shows, shown-merged}
+use Rattle.walk.specs.Reads.Sheet.{Lists, to-bound, to-end, within, sheet-is}
 use Rattle.walk.specs.Reads.Seek.{isFrom, from, lookup, points, seek-is, get-is, shown-shows}
+use Rattle.sheet.specs.declared.calls.SheetAnswer.{SheetAnswer}
+use Rattle.sheet.specs.declared.calls.SheetAnswer.the-variants.{Refused as SheetRefused}
+use Rattle.sheet.specs.Answers.{prefixLong, prefixLast, listedIn, sheetTold, recordsOf, sheetFramed, sheetAnswer}
 use Rattle.walk.specs.Answers.{inFrames, refusedSeek, seekTold, seekFramed, seekAnswer, refusedGet, gotTold, getFramed, getAnswer}
 
 -- a point as a reader sees it: key and value
@@ -83,3 +90,35 @@ module _ {t x : List ℕ} (r : Reading t x) where
       first : (ps : List Stop) → All (Shows t) ps → pointAt t (seekTold x (firstOf foundAt ps 0) .answer) ≡ firstPoint (map pointOf ps)
       first [] h = refl
       first (p ∷ ps) h = ap (λ (e : Record). point (e .key) (e .value)) (h p here .reads)
+
+-- what sheet lists, whichever way its walk ended
+lists-told : {w : Walked (List Record) (List Record)} {es : List Record} (room : ℕ) → Lists w es → sheetTold room w ≡ listedIn room es
+unfolding sheetTold
+lists-told room to-bound = refl
+lists-told room to-end = refl
+
+lists-records : {w : Walked (List Record) (List Record)} {es : List Record} → Lists w es → recordsOf w ≡ es
+unfolding recordsOf
+lists-records to-bound = refl
+lists-records to-end = refl
+
+-- the live records of the full merge whose key begins with a prefix
+unfoldable pub prefixed : List ℕ → List ℕ → List Record
+prefixed t prefix = keep (within (lowKey prefix) (highKey prefix)) (points t)
+
+-- sheet's answer for some records
+unfoldable pub sheetOf : List Record → List ℕ → ℕ → SheetAnswer
+sheetOf es prefix room =
+    cond (prefixLong prefix) (cond (prefixLast prefix) (SheetRefused (PrefixEnd (length prefix))) (listedIn room es)) (SheetRefused (Bounds (length prefix)))
+
+module _ {t x : List ℕ} (r : Reading t x) (prefix : List ℕ) where
+  pub sheet-answers : (room : ℕ) → sheetAnswer t x prefix room ≡ sheetOf (prefixed t prefix) prefix room
+  unfolding sheetAnswer sheetFramed sheetOf prefixed
+  sheet-answers room =
+      fits-frames r SheetRefused (sheetFramed t x prefix room)
+      ∙ ap (λ (a : SheetAnswer). cond (prefixLong prefix) (cond (prefixLast prefix) (SheetRefused (PrefixEnd (length prefix))) a) (SheetRefused (Bounds (length prefix))))
+      (lists-told room (sheet-is r prefix))
+
+  pub sheet-records : recordsOf (sheet t x prefix) ≡ prefixed t prefix
+  unfolding prefixed
+  sheet-records = lists-records (sheet-is r prefix)
