@@ -6,10 +6,10 @@ use lib.ListN.{length, replicate}
 use Rattle.number.specs.Big.{be, bytesOf, put}
 use Rattle.refusal.specs.Table.{verdictOf}
 use Rattle.refusal.specs.declared.Verdict.{Verdict}
-use Rattle.theory.specs.Rising.{any, insert, insertAll}
+use Rattle.theory.specs.Rising.{any, keep, insert, insertAll}
 use Rattle.theory.specs.Listed.{listed}
 use Rattle.theory.specs.Records.{Record}
-use Rattle.theory.specs.Merge.{hidden}
+use Rattle.theory.specs.Merge.{hidden, over, merged, fold}
 use Rattle.theory.specs.View.{spread, entriesFrom, view, old}
 use Rattle.theory.specs.Places.{count}
 use Rattle.theory.specs.Pack.{joined, grouped, groups, packOn, pack}
@@ -18,7 +18,7 @@ use Rattle.tray.specs.declared.check.TrayAnswer.the-variants.{Records, Refused 
 use Rattle.tray.specs.Frame.{runCount, countOf, recordsBefore, startOf, runBytes, headerFits, countsFit, framed}
 use Rattle.tray.specs.Run.{recordFrom, kindWrong, keyWrong, judgeFrom}
 use Rattle.tray.specs.Check.{afterRun, checkRuns, checkTray}
-use Rattle.tray.specs.Meaning.{runOf, runsOf, recordBytes, recordsBytes, countsBytes, runsBytes, trayBytes}
+use Rattle.tray.specs.Meaning.{runOf, runsOf, recordBytes, recordsBytes, countsBytes, runsBytes, trayBytes, total}
 use Rattle.index.specs.declared.check.IndexAnswer.{IndexAnswer}
 use Rattle.index.specs.declared.check.IndexAnswer.the-variants.{Segments, Refused as IndexRefused}
 use Rattle.index.specs.Layout.{sizeOf, segmentCount, headSize, segmentAt, Segment, indexFramed}
@@ -28,6 +28,9 @@ use Rattle.index.specs.Check.{afterScan, judgeIndex, framedIndex, afterTray, ch
 use Rattle.build.specs.declared.BuildAnswer.{BuildAnswer}
 use Rattle.build.specs.declared.BuildAnswer.the-variants.{Written, Refused as BuildRefused}
 use Rattle.build.specs.Build.{cuts, anchorOf, offsetsBytes, segmentBytes, segmentsBytes, indexBytes, indexSize, sizeFits, afterCheck, build, leaves}
+use Rattle.fold.specs.declared.FoldAnswer.{FoldAnswer}
+use Rattle.fold.specs.declared.FoldAnswer.the-variants.{Written as FoldWritten, Refused as FoldRefused}
+use Rattle.fold.specs.Fold.{foldedRun, foldedRuns, foldBytes, foldSize, boundsHold, afterCheck as afterFold, foldAnswer, leaves as foldLeaves}
 use Rattle.walk.specs.declared.calls.Seeks.{Seeks}
 use Rattle.walk.specs.declared.calls.SeekAnswer.{SeekAnswer}
 use Rattle.walk.specs.declared.calls.SeekAnswer.the-variants.{Found as SeekFound, End as SeekEnd, Refused as SeekRefused}
@@ -49,7 +52,7 @@ pub record Given : Type 0 where
 abbrev pub gives : Verdict → Given
 gives v = record { answer = v; output = [] }
 
--- build's output before the call
+-- the output of build or fold before the call
 abbrev pub room : List ℕ
 room = replicate 200 0xaa
 
@@ -73,6 +76,10 @@ indexVerdict (IndexRefused r) = verdictOf r
 abbrev pub buildVerdict : BuildAnswer → Verdict
 buildVerdict (Written n) = accepted n
 buildVerdict (BuildRefused r) = verdictOf r
+
+abbrev pub foldVerdict : FoldAnswer → Verdict
+foldVerdict (FoldWritten n) = accepted n
+foldVerdict (FoldRefused r) = verdictOf r
 
 -- seek's answer: 1 with run and place where it found a record, 0 at the end
 abbrev pub seekGiven : Seeks → Given
@@ -123,3 +130,12 @@ sought runs d ss key = seekGiven (seekAnswer (trayBytes runs) (bytesOfIndex (len
 unfoldable pub gotten : List (List Record) → ℕ → List Segment → ℕ → Given
 unfolding sought getAnswer getFramed gotTold get gotFrom
 gotten runs d ss key = getGiven (getAnswer (trayBytes runs) (bytesOfIndex (length runs) d ss) (bytesOf 8 key))
+
+-- fold
+unfoldable pub folded : List (List Record) → ℕ → ℕ → Given
+unfolding checks
+    foldLeaves foldAnswer afterFold boundsHold foldSize foldedRun foldBytes foldedRuns total fold merged over hidden any keep insert insertAll put
+    runsOf runOf listed
+folded runs a b =
+    let r = foldAnswer (trayBytes runs) a b (length room) in
+    record { answer = foldVerdict r; output = foldLeaves (trayBytes runs) a b room r }

@@ -1,5 +1,5 @@
 -- The table of document 01, "Small trays to prove", as data: a row each, with the runs, D, and what the row says of them. Numbers stand for
--- keys. `Table` has the statement. Not here: rows j and k, which are about folds. Assumes nothing.
+-- keys. `Table` has the statement. Assumes nothing.
 use Prim.Native.Nat.{ℕ}
 use mathlib.Core.List.{List, [], _∷_}
 use Rattle.refusal.specs.Table.{told}
@@ -13,6 +13,10 @@ live k = record { key = k; kind = 0; value = 1 }
 
 abbrev pub gone : ℕ → Record
 gone k = record { key = k; kind = 1; value = 0 }
+
+-- a live record of a key, with the number of its run as its value
+abbrev pub from-run : ℕ → ℕ → Record
+from-run r k = record { key = k; kind = 0; value = r }
 
 -- a segment: anchor, offsets, selectors
 abbrev pub segment : ℕ → List ℕ → List ℕ → Segment
@@ -34,6 +38,8 @@ pub data Result : Type 0 where
   seek-ends : List Segment → ℕ → Result
   -- and a get of the key finds nothing
   get-absent : List Segment → ℕ → Result
+  -- fold of these runs writes a tray of these
+  folds : ℕ → ℕ → List (List Record) → Result
 
 -- the runs, D, and what is said of them
 pub record Row : Type 0 where
@@ -95,10 +101,20 @@ row-i =
     (judges (segment 1 (0 ∷ []) (0x00 ∷ 0x00 ∷ 0x7f ∷ 0x3f ∷ []) ∷ []) (told 5 0)
     ∷ judges (segment 1 (0 ∷ []) (0x00 ∷ 0x00 ∷ 0x3f ∷ 0x7f ∷ []) ∷ []) (told 5 0) ∷ [])
 
+-- a gone record stays
+abbrev pub row-j : Row
+row-j = row (row-e .runs) 2 (folds 0 1 ((gone 5 ∷ []) ∷ []) ∷ [])
+
+-- of two versions the newer one stays, and an empty run adds nothing
+abbrev pub row-k : Row
+row-k =
+    row ((from-run 0 1 ∷ []) ∷ [] ∷ (from-run 2 1 ∷ from-run 2 2 ∷ []) ∷ []) 3
+    (folds 0 2 ((from-run 0 1 ∷ from-run 2 2 ∷ []) ∷ []) ∷ [])
+
 -- D below H
 abbrev pub row-l : Row
 row-l = row ((live 1 ∷ []) ∷ (live 2 ∷ []) ∷ []) 1 (build-refused (told 6 1) ∷ [])
 
 -- the rows
 abbrev pub table : List Row
-table = row-a ∷ row-b ∷ row-c ∷ row-d ∷ row-e ∷ row-f ∷ row-g ∷ row-h ∷ row-i ∷ row-l ∷ []
+table = row-a ∷ row-b ∷ row-c ∷ row-d ∷ row-e ∷ row-f ∷ row-g ∷ row-h ∷ row-i ∷ row-j ∷ row-k ∷ row-l ∷ []
