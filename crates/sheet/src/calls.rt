@@ -63,7 +63,8 @@ fn write_counted(
     ensures { λ r. ⌜ Leaves (now (t .entry)) (now (x .entry)) (spotOf from) count (now (out .entry)) (now (out .exit)) r ⌝ }
 {
     let k = 24 * count;
-    if k <= out.len() {
+    let room = out.len();
+    if k <= room {
         page_from(t, x, h, d, n, counts, starts, from, &mut out[..k]);
         return SheetAnswer::Listed(count as u64);
     }
