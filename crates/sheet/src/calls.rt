@@ -3,6 +3,7 @@ use crate::bounds::high_key;
 use crate::bounds::low_key;
 use index::frame::IndexFrame;
 use index::frame::index_frame;
+use index::select::head_of;
 use listing::count::count_from;
 use listing::page::Stop;
 use listing::page::page_from;
@@ -62,7 +63,8 @@ fn write_counted(
     ensures { λ r. ⌜ Leaves (now (t .entry)) (now (x .entry)) (spotOf from) count (now (out .entry)) (now (out .exit)) r ⌝ }
 {
     let k = 24 * count;
-    if k <= out.len() {
+    let room = out.len();
+    if k <= room {
         page_from(t, x, h, d, n, counts, starts, from, &mut out[..k]);
         return SheetAnswer::Listed(count as u64);
     }
@@ -119,9 +121,13 @@ fn sheet_between(
     let g = start_at(x, h, d, n, low);
     let sought = seek_from(t, x, h, d, n, &counts, &starts, g, low);
     let sight = sought.sight;
-    let Sight::Found(_run, _place) = sight else {
+    let Sight::Found(run, place) = sight else {
         return found_nothing(sight);
     };
+    // The first record may be past the sheet already: then nothing is walked twice.
+    if high <= head_of(t, &starts, run, place).key {
+        return SheetAnswer::Listed(0);
+    }
     let cursor = sought.cursor;
     list_from(t, x, h, d, n, &counts, &starts, cursor, high, out)
 }

@@ -3,7 +3,8 @@
 --     listed-fits, listed-short, leaves-full, leaves-written   the second pass
 --     counted-bound, counted-end                               what the first pass says of the records
 --     told-lost, told-listed                                   both passes
---     between-is, between-none, none-left                      after the seek
+--     between-is, past-bound, past-none, past-left             after a seek that found a record
+--     between-none, none-left                                  and one that found none
 --     framed-none, framed-long, framed-last, framed-walked     the prefix
 --     between-bounds, left-leaves                              its bounds, and what is left
 -- Assumes nothing.
@@ -11,7 +12,7 @@ use mathlib.Core.Path.{_≡_, refl, sym, ap, ap₂, _∙_, subst}
 use Prim.Native.Nat.{ℕ, _+_, _-_, _*_, _≤_, _<_}
 use native.Mathlib.Nat.{zero-add}
 use native.Mathlib.Omega.{arith}
-use mathlib.Core.Bool.{Bool, cond, _&&_}
+use mathlib.Core.Bool.{Bool, true, cond, _&&_}
 use mathlib.Core.List.{List, [], _∷_, _++_}
 use lib.ListN.{length, getD, take, drop}
 use lib.Seq.{length-take-le}
@@ -23,17 +24,21 @@ use Rattle.refusal.specs.declared.Refusal.the-variants.{Lost, Room, Bounds, Pre
 use Rattle.theory.specs.Records.{Record}
 use Rattle.tray.specs.declared.Place.{Place}
 use Rattle.tray.specs.declared.RunNo.{RunNo}
+use Rattle.tray.specs.Frame.{runBytes}
+use Rattle.tray.specs.Run.{recordAt}
 use Rattle.walk.specs.declared.cursor.Sight.{Sight}
 use Rattle.walk.specs.declared.cursor.Sight.the-variants.{Found as SightFound, End as SightEnd, Lost as SightLost}
 use Rattle.walk.specs.declared.cursor.Sought.{Sought}
 use Rattle.walk.specs.Start.{start}
-use Rattle.walk.specs.Walk.{Spot, Walked, stayed, ended, lost, walkFrom, walkSegments}
-use Rattle.walk.specs.Reads.{Found, lowKey, highKey, seekVisit, seek, pageVisit, sheetVisit, sheetFrom, sheet}
+use Rattle.walk.specs.Walk.{Spot, stay, Walked, stayed, ended, lost, walkFrom, walkSegments}
+use Rattle.walk.specs.Reads.{Found, unmarked, recordBy, lowKey, highKey, seekVisit, seek, pageVisit, sheetVisit, sheetFrom, sheet}
 use Rattle.walk.specs.Reads.Page.{listing, length-listing}
 use Rattle.walk.specs.Reads.Sheet.{Lists}
 use Rattle.walk.specs.Reads.Sheet.Lists.{to-bound, to-end}
 use Rattle.walk.specs.Code.{Walking, spotOf, soughtAs, soughtOf}
 use Rattle.walk.specs.Code.Get.{came}
+use Rattle.walk.specs.Code.Stayed.{Stands, walk-stays}
+use Rattle.walk.specs.Code.Inside.{seek-inside}
 use Rattle.listing.specs.declared.page.Stop.{Stop}
 use Rattle.listing.specs.declared.page.Stop.the-variants.{More, End, Lost as StopLost}
 use Rattle.listing.specs.declared.page.Paged.{Paged}
@@ -134,6 +139,16 @@ none-listed : (room : ℕ) → Listed 0 ≡ listedIn room []
 unfolding listedIn
 none-listed room = ap (λ (b : Bool). cond b (Listed 0) (Refused (Room 0))) (sym (le-leb 0 room (omega arith)))
 
+-- a walk that is at its bound at once lists nothing, and nothing is written
+module _ {w : Walked (List Record) (List Record)} (e : stayed [] ≡ w) where
+  pub past-none : (room : ℕ) → Listed 0 ≡ sheetTold room w
+  unfolding sheetTold
+  past-none room = none-listed room ∙ ap (sheetTold room) e
+
+  pub past-left : (out : List ℕ) (k : ℕ) → out ≡ left w out (Listed k)
+  unfolding left recordsOf listing put
+  past-left out k = ap (λ (a : Walked (List Record) (List Record)). left a out (Listed k)) e
+
 -- after the seek
 module _ (t x : List ℕ) (low : ℕ) {h d n g : ℕ} {counts : List ℕ} (s : Sought) (w : Walking t x h d n counts) (e : g ≡ start h x low)
     (walked : soughtOf s ≡ walkSegments t x (seekVisit t low) (n - g) g 0) (high : ℕ) where
@@ -144,6 +159,20 @@ module _ (t x : List ℕ) (low : ℕ) {h d n g : ℕ} {counts : List ℕ} (s : S
   between-is y =
       ap (λ (a : Sight). sheetFrom t x high (soughtAs a (spotOf (s .cursor)))) (sym y)
       ∙ ap (λ (a : Walked ℕ Found). sheetFrom t x high a) (came t x low s w e walked)
+
+  -- and at once at its bound where that record is past it
+  pub past-bound : {run : RunNo} {place : Place} {key : ℕ} → s .sight ≡ SightFound run place → key ≡ recordAt (runBytes t (run .0)) (place .0) .key → high ≤ key
+      → stayed [] ≡ sheetFrom t x high (seek t x low)
+  unfolding sheetVisit
+  past-bound {run} {place} {key} y k l =
+      let i = seek-inside t x low g s w walked y in
+      let c = spotOf (s .cursor) in
+      let read : recordBy t (i .selector) c .key ≡ key = sym (k ∙ ap (λ (e : Record). e .key) (i .is)) in
+      let stands = subst (λ (m : ℕ). Stands t x m (i .selector) c) (w .index .count) (i .stands) in
+      sym (walk-stays t x (sheetVisit t high) c [] stands (visit-past (i .selector) c (i .low) (rw read l))) ∙ between-is y
+    where
+      visit-past : (v : ℕ) (c : Spot) → unmarked v ≡ true → high ≤ recordBy t v c .key → sheetVisit t high v c [] ≡ stay []
+      visit-past v c a b = rw (a, le-leb high (recordBy t v c .key) b)
 
   module _ (none : (run : RunNo) (place : Place) → s .sight ≡ SightFound run place → ⊥) where
     -- nothing found

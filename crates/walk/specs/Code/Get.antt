@@ -20,7 +20,6 @@ use Rattle.tray.specs.Frame.{runCount, countOf, runBytes}
 use Rattle.tray.specs.Run.{recordAt}
 use Rattle.refusal.specs.declared.Refusal.the-variants.{Lost}
 use Rattle.number.specs.Big.{bytesOf}
-use Rattle.index.specs.Layout.{sizeOf}
 use Rattle.index.specs.Scan.{runIn}
 use Rattle.walk.specs.declared.cursor.Sight.{Sight}
 use Rattle.walk.specs.declared.cursor.Sight.the-variants.{Found as SightFound, End as SightEnd, Lost as SightLost}
@@ -31,7 +30,7 @@ use Rattle.walk.specs.Start.{start}
 use Rattle.walk.specs.Walk.{Spot, Visit, stay, go, Walked, stayed, ended, lost, named, walkSegments}
 use Rattle.walk.specs.Reads.{Found, unmarked, recordBy, foundBy, seekVisit, seek, value, absent, get-lost, gotFrom, get}
 use Rattle.walk.specs.Code.{Walking, spotOf, soughtAs, soughtOf}
-use Rattle.walk.specs.Code.Stayed.{segments-stayed}
+use Rattle.walk.specs.Code.Stayed.{Stands, segments-stayed}
 use Rattle.walk.specs.Answers.{valueless, refusedGet, gotTold, getFramed}
 
 -- the value of the record at a place, where its key is the one asked for
@@ -65,9 +64,10 @@ pub record InTray (t : List ℕ) (f : Found) : Type 0 where
   pub run-below : f .run < runCount t
   pub place-below : f .place < countOf t (f .run)
 
-stay-named : (t x : List ℕ) (key n v : ℕ) (c : Spot) (st : ℕ) (f : Found) → c .segment < n → c .selector < sizeOf x → named t (c .places) v ≡ true → seekVisit t key v c st ≡ stay f → InTray t f
+stay-named : (t x : List ℕ) (key n v : ℕ) (c : Spot) (st : ℕ) (f : Found) → Stands t x n v c → seekVisit t key v c st ≡ stay f → InTray t f
 unfolding seekVisit foundBy named
-stay-named t x key n v c st f low inside there e =
+stay-named t x key n v c st f stands e =
+    let there = stands .there in
     cases (unmarked v && leb key (recordBy t v c .key))
     (λ y. subst (InTray t) (same (rw y at e))
     (record {

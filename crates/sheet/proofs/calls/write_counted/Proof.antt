@@ -2,6 +2,7 @@
 use Rattle.sheet.specs.Answers.Code.{listed-fits, listed-short, leaves-full, leaves-written}
 use lib.Seq.{length-take-le}
 use mathlib.Core.Path.{refl, sym}
+use native.Mathlib.Omega.{arith}
 use borrow.Author.Needs.{needs}
 use Rattle.sheet.proofs.calls.write_counted.Statement.{statement}
 use Rattle.sheet.proofs.calls.write_counted.Tie as tie
@@ -13,7 +14,7 @@ slice-relend-prefix-page-from : tie.Need-slice-relend-prefix-page-from
 slice-relend-prefix-page-from c = search needs
 
 slice-aggregate-page-from : tie.Need-slice-aggregate-page-from
-slice-aggregate-page-from c = sym (length-take-le _ _ (c .before .if1 .taken))
+slice-aggregate-page-from c = sym (length-take-le _ _ (omega arith))
 
 page-from-requires : tie.Need-page-from-requires
 page-from-requires c κs = search needs
@@ -22,7 +23,7 @@ same-length : tie.Need-same-length
 same-length c = search needs
 
 returns : tie.Need-returns
-returns c = (listed-fits _ _ (c .before .before .before .before .if1 .taken), leaves-written _ _ _ _ _ (c .before .before .page-from .last .1 .1 .1 .1 .1 .1 .1 .1 .0) refl (c .before .before .before .before .if1 .taken) (c .before .before .page-from .ensures) _)
+returns c = (listed-fits _ _ (c .before .before .before .before .if1 .taken), leaves-written _ _ _ _ _ (c .before .before .page-from .last .1 .1 .1 .1 .1 .1 .1 .1 .0) refl (omega arith) (c .before .before .page-from .ensures) _)
 
 returns-2 : tie.Need-returns-2
 returns-2 c = (listed-short _ _ (c .if1 .left), leaves-full _ _ _ _ _ _)
