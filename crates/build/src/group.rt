@@ -1,7 +1,7 @@
 // The versions of a key: taken from their runs, and written as selectors.
-use crate::heads::draw;
-use crate::heads::head_key;
-use crate::heads::least;
+use heads::draw;
+use heads::head_key;
+use heads::least;
 use number::wide_size;
 use tray::Place;
 use tray::RunNo;
@@ -12,7 +12,8 @@ ghost use Prim.Native.Nat.{_+_, _≤_, _<_};
 ghost use lib.ListN.{length, getD, take};
 ghost use lib.Dec.{eqb};
 ghost use Rattle.tray.specs.Frame.{runCount, countOf};
-ghost use Rattle.build.specs.Build.Code.{Caching, Takeable, Took, written, takeAll, Puts, Fills};
+ghost use Rattle.heads.specs.Heads.{Caching};
+ghost use Rattle.build.specs.Build.Code.{Takeable, Took, written, takeAll, Puts, Fills};
 
 // The mark of a gone record.
 fn gone_mark(kind: u8) -> u8

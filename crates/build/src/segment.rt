@@ -1,6 +1,6 @@
 // One segment: its anchor, its offsets, the selectors of its records, and placeholders to its end.
 use crate::group::put_groups;
-use crate::heads::least;
+use heads::least;
 use number::put2;
 use number::put8;
 use number::wide_size;
@@ -9,7 +9,8 @@ ghost use Prim.Native.Nat.{_+_, _*_, _-_, _≤_};
 ghost use lib.ListN.{length, replicate};
 ghost use Rattle.number.specs.Big.{put};
 ghost use Rattle.tray.specs.Frame.{runCount};
-ghost use Rattle.build.specs.Build.Code.{Caching, offsetsFrom, Segmented};
+ghost use Rattle.heads.specs.Heads.{Caching};
+ghost use Rattle.build.specs.Build.Code.{offsetsFrom, Segmented};
 
 // The places as offsets, from byte 8 on.
 fn put_offsets(seg: &mut [u8], places: &[u16], h: u8)

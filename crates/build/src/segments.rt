@@ -1,6 +1,6 @@
 // All segments: counted, and written each into its own stretch of the output.
-use crate::heads::fill_keys;
 use crate::segment::write_segment;
+use heads::fill_keys;
 use index::SegmentNo;
 use index::frame::segment_at;
 use number::wide_size;

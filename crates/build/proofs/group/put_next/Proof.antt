@@ -1,5 +1,5 @@
 -- `build::group::put_next` meets its contract: what is drawn are the runs of the least key. Assumes nothing.
-use Rattle.build.specs.Build.Code.Runs.{drew-low}
+use Rattle.heads.specs.Heads.Runs.{drew-low}
 use Rattle.build.specs.Build.Code.Draws.{padded-at, left-of, takeable-group, puts-next, puts-full}
 use mathlib.Core.Path.{refl}
 use native.Mathlib.Omega.{arith}

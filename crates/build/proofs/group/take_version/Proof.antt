@@ -2,7 +2,7 @@
 -- the run. Assumes nothing.
 use Rattle.build.specs.Build.Code.Versions.{version-low}
 use Rattle.build.specs.Build.Code.Versions.{took, mark-low}
-use Rattle.build.specs.Build.Code.Heads.{run-cut}
+use Rattle.heads.specs.Heads.Laws.{run-cut}
 use lib.ListN.{length-set}
 use native.Mathlib.Omega.{arith}
 use borrow.Author.Needs.{needs}

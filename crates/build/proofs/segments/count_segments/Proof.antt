@@ -3,7 +3,7 @@
 use Rattle.build.specs.Build.Code.Loops.{front-long, front-back}
 use Rattle.build.specs.Build.Bytes.{cuts-few}
 use Rattle.build.specs.Build.Code.Loops.{Merging, merging-none, merging-low, merging-end, merging-less, merging-more, sounded-ready, sounded-fits, sounded-reading, padded-none}
-use Rattle.build.specs.Build.Code.{Caching}
+use Rattle.heads.specs.Heads.{Caching}
 use Rattle.number.proofs.Known.{bytes-known}
 use lib.ListN.{length}
 use mathlib.Core.Path.{_≡_, refl, sym}

@@ -1,7 +1,7 @@
 -- `build::segments::write_segments` meets its contract. Invariant: g segments have been written, and what is left to write completes them.
 -- Measure: the records left. Assumes nothing.
 use Rattle.build.specs.Build.Code.Loops.{Writing, merging-low, merging-end, merging-less, writing-none, writing-room, writing-end, writing-more, lent-long, lent-back, sounded-ready, sounded-fits, sounded-reading, padded-none}
-use Rattle.build.specs.Build.Code.{Caching}
+use Rattle.heads.specs.Heads.{Caching}
 use Rattle.build.specs.Build.Bytes.{cuts-few}
 use Rattle.number.proofs.Known.{bytes-known}
 use mathlib.Core.Path.{refl, sym}

@@ -21,8 +21,9 @@ use Rattle.theory.specs.Tests.{cases, split-at, and-left, and-right}
 use Rattle.tray.specs.Frame.{runCount, countOf, runBytes}
 use Rattle.tray.specs.Run.{recordAt}
 use Rattle.index.specs.Scan.{nextIn, hasNext, raise}
-use Rattle.build.specs.Build.Code.{highest, keyOr, nextKey, Padded, Caching, Least, Left, runsTo, keyedLeft, Drew, Takeable, none, more, written, takeAll, drawn, LeastKey, Puts, full, puts}
-use Rattle.build.specs.Build.Code.Runs.{runsTo-same}
+use Rattle.heads.specs.Heads.{highest, keyOr, nextKey, Padded, Caching, Least, Left, runsTo, keyedLeft, Drew}
+use Rattle.build.specs.Build.Code.{Takeable, none, more, written, takeAll, drawn, LeastKey, Puts, full, puts}
+use Rattle.heads.specs.Heads.Runs.{runsTo-same}
 
 module _ (test : ℕ → Bool) where
   pub runsTo-mem : (h : ℕ) {r : ℕ} → Mem r (runsTo test h) → (r < h) × (test r ≡ true)

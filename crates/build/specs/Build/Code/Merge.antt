@@ -34,7 +34,8 @@ use Rattle.index.specs.Scan.Places.{placesOf, getD-placesOf}
 use Rattle.build.specs.Build.{itemKey}
 use Rattle.build.specs.Build.Laws.{Ready, below-64}
 use Rattle.build.specs.Build.Bytes.{runAt-has}
-use Rattle.build.specs.Build.Code.{highest, keyOr, nextKey, drawn, LeastKey}
+use Rattle.heads.specs.Heads.{highest, keyOr, nextKey}
+use Rattle.build.specs.Build.Code.{drawn, LeastKey}
 use Rattle.build.specs.Build.Code.Draws.{drawn-rises, drawn-mem, mem-drawn}
 
 -- the records b have been read, w are left, and the places say so

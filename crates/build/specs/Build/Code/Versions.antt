@@ -20,8 +20,9 @@ use Rattle.tray.specs.Frame.{runCount, countOf, runBytes}
 use Rattle.tray.specs.Run.{recordAt}
 use Rattle.index.specs.Scan.{nextIn, raise}
 use Rattle.index.specs.Scan.Code.{Reading}
-use Rattle.build.specs.Build.Code.{keyOr, nextKey, Caching, spelling, Takeable, more, Took, written, takeAll, Puts, Fills, ends, goes}
-use Rattle.build.specs.Build.Code.Heads.{next-is}
+use Rattle.heads.specs.Heads.{keyOr, nextKey, Caching}
+use Rattle.build.specs.Build.Code.{spelling, Takeable, more, Took, written, takeAll, Puts, Fills, ends, goes}
+use Rattle.heads.specs.Heads.Laws.{next-is}
 
 -- a run that has a next record
 pub version-low : {t counts starts places : List ℕ} {r i : ℕ} → Reading t counts starts places → r < runCount t → i ≡ r

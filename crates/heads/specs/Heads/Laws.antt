@@ -21,7 +21,7 @@ use Rattle.tray.specs.Frame.Laws.{upto}
 use Rattle.tray.specs.Frame.Code.{cut}
 use Rattle.tray.specs.Run.{recordAt}
 use Rattle.index.specs.Scan.Code.{Reading}
-use Rattle.build.specs.Build.Code.{highest, keyOr, nextKey, Padded, Caching, Lesser, Least}
+use Rattle.heads.specs.Heads.{highest, keyOr, nextKey, Padded, Caching, Lesser, Least}
 
 pub key-has : (run : List ℕ) {n p k : ℕ} → p < n → k ≡ recordAt run p .key → k ≡ keyOr run n p
 unfolding keyOr

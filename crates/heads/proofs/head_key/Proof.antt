@@ -1,8 +1,8 @@
--- `build::heads::head_key` meets its contract: the key at the place, or the highest number past the end. Assumes nothing.
-use Rattle.build.specs.Build.Code.Heads.{key-has, key-past}
+-- `heads::head_key` meets its contract: the key at the place, or the highest number past the end. Assumes nothing.
+use Rattle.heads.specs.Heads.Laws.{key-has, key-past}
 use native.Mathlib.Omega.{arith}
-use Rattle.build.proofs.heads.head_key.Statement.{statement}
-use Rattle.build.proofs.heads.head_key.Tie as tie
+use Rattle.heads.proofs.head_key.Statement.{statement}
+use Rattle.heads.proofs.head_key.Tie as tie
 
 key-at-requires : tie.Need-key-at-requires
 key-at-requires c κs = omega arith

@@ -1,11 +1,11 @@
--- `build::heads::least` meets its contract. Invariant: no lane is passed by one of the first r keys, and each is a key or the highest number.
+-- `heads::least` meets its contract. Invariant: no lane is passed by one of the first r keys, and each is a key or the highest number.
 -- Measure: the keys left. Assumes nothing.
-use Rattle.build.specs.Build.Code.Heads.{Lanes, lanes-none, lanes-more, lanes-all}
+use Rattle.heads.specs.Heads.Laws.{Lanes, lanes-none, lanes-more, lanes-all}
 use Prim.Native.Nat.{_-_}
 use native.Mathlib.Omega.{arith}
 use borrow.Author.Needs.{needs}
-use Rattle.build.proofs.heads.least.Statement.{statement}
-use Rattle.build.proofs.heads.least.Tie as tie
+use Rattle.heads.proofs.least.Statement.{statement}
+use Rattle.heads.proofs.least.Tie as tie
 
 abbrev Inv-loop : tie.InvT-loop
 Inv-loop keys h end a₀ b₀ c₀ d₀ r₀ a b c d r = Lanes keys r a b c d

@@ -1,8 +1,8 @@
--- `build::heads::below` meets its contract: the test that was taken is the one that the number says. Assumes nothing.
+-- `heads::below` meets its contract: the test that was taken is the one that the number says. Assumes nothing.
 use borrow.Author.Tests.{lt-ltb, le-ltb}
 use native.Mathlib.Omega.{arith}
-use Rattle.build.proofs.heads.below.Statement.{statement}
-use Rattle.build.proofs.heads.below.Tie as tie
+use Rattle.heads.proofs.below.Statement.{statement}
+use Rattle.heads.proofs.below.Tie as tie
 
 returns : tie.Need-returns
 returns c = (simp (lt-ltb _ _ (c .if1 .taken)), omega arith)

@@ -1,15 +1,15 @@
--- `build::heads::draw_key` meets its contract. Invariant: the first n of the group are the runs below r with the key. Measure: the runs left.
+-- `heads::draw_key` meets its contract. Invariant: the first n of the group are the runs below r with the key. Measure: the runs left.
 -- Assumes nothing.
-use Rattle.build.specs.Build.Code.Runs.{drew-all, keyed-is}
-use Rattle.build.specs.Build.Code.Runs.{drew-none, drew-more}
-use Rattle.build.specs.Build.Code.{keyed, Drew}
+use Rattle.heads.specs.Heads.Runs.{drew-all, keyed-is}
+use Rattle.heads.specs.Heads.Runs.{drew-none, drew-more}
+use Rattle.heads.specs.Heads.{keyed, Drew}
 use lib.ListN.{length, length-set}
 use mathlib.Core.Path.{_≡_, refl}
 use Prim.Native.Nat.{_≤_, _-_}
 use native.Mathlib.Omega.{arith}
 use borrow.Author.Needs.{needs}
-use Rattle.build.proofs.heads.draw_key.Statement.{statement}
-use Rattle.build.proofs.heads.draw_key.Tie as tie
+use Rattle.heads.proofs.draw_key.Statement.{statement}
+use Rattle.heads.proofs.draw_key.Tie as tie
 
 abbrev Inv-loop : tie.InvT-loop
 Inv-loop keys h m group₀ n₀ r₀ group n r = (r ≤ h) × (n ≤ r) × (length group ≡ 64) × Drew (keyed keys m) r n group

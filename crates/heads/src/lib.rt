@@ -9,7 +9,7 @@ ghost use lib.ListN.{length};
 ghost use lib.Dec.{eqb, ltb};
 ghost use Rattle.tray.specs.Frame.{runCount};
 ghost use Rattle.index.specs.Scan.Code.{Reading};
-ghost use Rattle.build.specs.Build.Code.{keyOr, Padded, Caching, Lesser, Least, keyed, keyedLeft, Drew, Left};
+ghost use Rattle.heads.specs.Heads.{keyOr, Padded, Caching, Lesser, Least, keyed, keyedLeft, Drew, Left};
 
 // The key at a place of a run of n records, or the highest number past its end.
 pub fn head_key(run: &[u8], n: u16, p: Place) -> u64

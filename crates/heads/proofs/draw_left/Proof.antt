@@ -1,14 +1,14 @@
--- `build::heads::draw_left` meets its contract. Invariant: the first n of the group are the runs below r with the key and a record left.
+-- `heads::draw_left` meets its contract. Invariant: the first n of the group are the runs below r with the key and a record left.
 -- Measure: the runs left. Assumes nothing.
-use Rattle.build.specs.Build.Code.Runs.{drew-none, drew-more, drew-all, keyedLeft-is, both-low}
-use Rattle.build.specs.Build.Code.{keyedLeft, Drew}
+use Rattle.heads.specs.Heads.Runs.{drew-none, drew-more, drew-all, keyedLeft-is, both-low}
+use Rattle.heads.specs.Heads.{keyedLeft, Drew}
 use lib.ListN.{length, length-set}
 use mathlib.Core.Path.{_≡_, refl}
 use Prim.Native.Nat.{_≤_, _-_}
 use native.Mathlib.Omega.{arith}
 use borrow.Author.Needs.{needs}
-use Rattle.build.proofs.heads.draw_left.Statement.{statement}
-use Rattle.build.proofs.heads.draw_left.Tie as tie
+use Rattle.heads.proofs.draw_left.Statement.{statement}
+use Rattle.heads.proofs.draw_left.Tie as tie
 
 abbrev Inv-loop : tie.InvT-loop
 Inv-loop keys counts places h m group₀ n₀ r₀ group n r = (r ≤ h) × (n ≤ r) × (length group ≡ 64) × Drew (keyedLeft keys counts places m) r n group

@@ -16,7 +16,7 @@ use lib.Seq.{take-suc-set, take-set-le}
 use lib.Dec.{eqb, ltb}
 use borrow.Author.Tests.{lt-ltb, eqb-true}
 use Rattle.theory.specs.Tests.{cases}
-use Rattle.build.specs.Build.Code.{highest, runsTo, keyed, keyedLeft, Drew, Left}
+use Rattle.heads.specs.Heads.{highest, runsTo, keyed, keyedLeft, Drew, Left}
 
 module _ (test : ℕ → Bool) where
   pub drew-none : (group : List ℕ) → Drew test 0 0 group

@@ -1,8 +1,8 @@
--- `build::heads::draw` meets its contract: below the highest number a run with the key has a record left. Assumes nothing.
-use Rattle.build.specs.Build.Code.Runs.{drew-same, keyed-left}
+-- `heads::draw` meets its contract: below the highest number a run with the key has a record left. Assumes nothing.
+use Rattle.heads.specs.Heads.Runs.{drew-same, keyed-left}
 use native.Mathlib.Omega.{arith}
-use Rattle.build.proofs.heads.draw.Statement.{statement}
-use Rattle.build.proofs.heads.draw.Tie as tie
+use Rattle.heads.proofs.draw.Statement.{statement}
+use Rattle.heads.proofs.draw.Tie as tie
 
 draw-key-requires : tie.Need-draw-key-requires
 draw-key-requires c κs = omega arith

@@ -1,13 +1,13 @@
--- `build::heads::fill_keys` meets its contract. Invariant: the keys of the first r runs are found. Measure: the runs left.
+-- `heads::fill_keys` meets its contract. Invariant: the keys of the first r runs are found. Measure: the runs left.
 -- `run-cut` says that the stretch handed on is run r. Assumes nothing.
-use Rattle.build.specs.Build.Code.Heads.{Found, found-none, found-more, found-all, next-is, run-cut}
+use Rattle.heads.specs.Heads.Laws.{Found, found-none, found-more, found-all, next-is, run-cut}
 use lib.ListN.{getD}
 use mathlib.Core.Path.{refl, ap, _∙_}
 use Prim.Native.Nat.{_-_}
 use native.Mathlib.Omega.{arith}
 use borrow.Author.Needs.{needs}
-use Rattle.build.proofs.heads.fill_keys.Statement.{statement}
-use Rattle.build.proofs.heads.fill_keys.Tie as tie
+use Rattle.heads.proofs.fill_keys.Statement.{statement}
+use Rattle.heads.proofs.fill_keys.Tie as tie
 
 abbrev Inv-loop : tie.InvT-loop
 Inv-loop t h counts starts places keys₀ r₀ keys r = Found t places keys r

@@ -1,8 +1,8 @@
--- `build::heads::same` meets its contract: the test that was taken is the one that the number says. Assumes nothing.
+-- `heads::same` meets its contract: the test that was taken is the one that the number says. Assumes nothing.
 use borrow.Author.Tests.{eq-eqb, ne-eqb}
 use native.Mathlib.Omega.{arith}
-use Rattle.build.proofs.heads.same.Statement.{statement}
-use Rattle.build.proofs.heads.same.Tie as tie
+use Rattle.heads.proofs.same.Statement.{statement}
+use Rattle.heads.proofs.same.Tie as tie
 
 returns : tie.Need-returns
 returns c = (simp (eq-eqb _ _ (c .if1 .taken)), omega arith)
