@@ -1,6 +1,7 @@
 -- The next key of each run, as it is kept beside the places, and the runs that have the least one: what a merge of all runs reads.
 -- Assumes nothing.
 pub mod Laws
+pub mod Leads
 pub mod Runs
 use Prim.Native.Nat.{ℕ, zero, suc, _≤_, _<_}
 use mathlib.Core.Path.{_≡_}

@@ -1,4 +1,6 @@
 // The next key of each run: kept beside the places, so that the least one is found without reading the tray.
+pub mod lead;
+
 use number::wide_size;
 use tray::Place;
 use tray::run::key_at;
