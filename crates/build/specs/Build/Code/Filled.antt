@@ -5,17 +5,17 @@ use mathlib.Core.Path.{_≡_, refl, sym, ap, ap₂, _∙_, subst}
 use mathlib.Core.Logic.{⊎-elim}
 use Prim.Native.Nat.{ℕ, _+_, _-_, _*_, _≤_, _<_}
 use native.Mathlib.Omega.{arith}
-use mathlib.Core.List.{List, [], _∷_, _++_, map, map-append, append-assoc, append-nil, List·Memᴰ·head, List·Memᴰ·tail, List·Memᴰ·not-nil, List·Memᴰ·append-cases, List·Memᴰ·eq-of-singleton, Memᴰ·append-left, Memᴰ·append-right}
+use mathlib.Core.List.{List, [], _∷_, _++_, map, map-append, append-assoc, append-nil, List·Memᴰ·head, List·Memᴰ·append-cases, List·Memᴰ·eq-of-singleton, Memᴰ·append-left, Memᴰ·append-right}
 use lib.ListN.{length, getD, take, drop, length-append, length-map, List·getD-append}
 use lib.Seq.{append-snoc, getD-append-add, length-take-le}
 use lib.Dec.{eqb, ltb}
 use borrow.Author.Tests.{eqb-true, eqb-false, ltb-true, ltb-false}
 use Rattle.theory.specs.Tests.{cases}
 use Rattle.number.specs.Big.{put}
-use Rattle.theory.specs.Rising.{Mem, All, Rises}
+use Rattle.theory.specs.Rising.{Mem, Rises}
 use Rattle.theory.specs.Rising.Laws.{rises-left, rises-right}
-use Rattle.theory.specs.View.{rank, view}
-use Rattle.theory.specs.View.Laws.{view-at, view-rises}
+use Rattle.theory.specs.View.{rank}
+use Rattle.theory.specs.View.Laws.{view-at}
 use Rattle.theory.specs.View.Entries.{at-run}
 use Rattle.theory.specs.Pack.{groups, pack}
 use Rattle.theory.specs.Pack.Groups.{groups-full}
@@ -24,12 +24,12 @@ use Rattle.tray.specs.Meaning.{runsOf, Fits}
 use Rattle.index.specs.Rules.{Item, keyOf, selectorOf}
 use Rattle.index.specs.Rules.Cuts.{Cut, Above, lastOf, last-snoc, whole-above, cut-low, cut-rises, cut-next}
 use Rattle.index.specs.Scan.Places.{placesOf}
-use Rattle.heads.specs.Heads.Leads.{NextRun, NoRun, LeastKey}
+use Rattle.heads.specs.Heads.Leads.{NextRun, LeastKey}
 use Rattle.build.specs.Build.{itemKey}
 use Rattle.build.specs.Build.Laws.{Ready, below-64, rises-room}
 use Rattle.build.specs.Build.Code.{otherKey, Stopped, After, over, other, stop, back, Fills, ends, cuts}
 use Rattle.build.specs.Build.Code.Merge.{Reached, Stand, Came, next-first, none-left, least-first}
-use Rattle.build.specs.Build.Code.Spelled.{marksOn, lastKey, lastKey-last, length-marksOn, spells}
+use Rattle.build.specs.Build.Code.Spelled.{marksOn, lastKey, lastKey-last, spells}
 use Rattle.build.specs.Build.Code.Taken.{Taken, taken-reached, steps-taken}
 use Rattle.build.specs.Build.Code.Given.{Holds, LastGroup, back-is}
 use Rattle.build.specs.Build.Code.Packed.{pack-front, first-long}

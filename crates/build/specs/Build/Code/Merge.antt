@@ -4,16 +4,16 @@
 --     none-left                    where no run comes next nothing is left
 --     least-first                  the least key left is the first record's
 -- Assumes nothing.
-use mathlib.Core.Path.{_≡_, refl, sym, ap, _∙_, subst}
+use mathlib.Core.Path.{_≡_, refl, sym, ap, _∙_}
 use Prim.Native.Nat.{ℕ, _*_, _+_, _^_, _≤_, _<_}
 use native.Mathlib.Nat.{zero-add}
 use native.Mathlib.Omega.{arith}
 use mathlib.Core.Option.{some, Option·some-injective}
-use mathlib.Core.List.{List, [], _∷_, _++_, List·Memᴰ·head, List·Memᴰ·not-nil}
-use lib.ListN.{length, getD, getElem?}
+use mathlib.Core.List.{List, [], _∷_, _++_, List·Memᴰ·not-nil}
+use lib.ListN.{getD, getElem?}
 use lib.Dec.{ltb}
 use borrow.Author.Tests.{ltb-true, ltb-false}
-use Rattle.theory.specs.Rising.{Mem, All, Rises}
+use Rattle.theory.specs.Rising.{Mem, All}
 use Rattle.theory.specs.Tests.{cases, order}
 use Rattle.theory.specs.View.{At, rank, view}
 use Rattle.theory.specs.Lists.{place-lt}
@@ -31,7 +31,7 @@ use Rattle.index.specs.Rules.Cuts.{Cut, first-least}
 use Rattle.index.specs.Scan.{nextIn}
 use Rattle.index.specs.Scan.Heads.{head-left}
 use Rattle.index.specs.Scan.Places.{placesOf, getD-placesOf}
-use Rattle.heads.specs.Heads.{highest, nextKey}
+use Rattle.heads.specs.Heads.{highest}
 use Rattle.heads.specs.Heads.Leads.{NextRun, NoRun, LeastKey}
 use Rattle.heads.specs.Heads.Leads.Next.{nextKey-has, nextKey-low}
 use Rattle.build.specs.Build.{itemKey}

@@ -14,7 +14,6 @@ use mathlib.Core.List.{List}
 use lib.ListN.{length, getD, set, length-set}
 use lib.Dec.{eqb, ltb}
 use borrow.Author.Tests.{lt-ltb, le-ltb, eq-eqb, ne-eqb}
-use Rattle.theory.specs.Records.{live}
 use Rattle.theory.specs.Tests.{cases}
 use Rattle.tray.specs.Frame.{runBytes}
 use Rattle.tray.specs.Run.{recordAt}

@@ -23,8 +23,8 @@ use Rattle.index.specs.Scan.Places.{placesOf, getD-placesOf}
 use Rattle.build.specs.Build.{itemKey, anchorOf, offsetsBytes, segmentBytes}
 use Rattle.build.specs.Build.Laws.{Ready}
 use Rattle.build.specs.Build.Bytes.{length-offsetsBytes}
-use Rattle.build.specs.Build.Code.{offsetsFrom, otherKey, Segmented}
-use Rattle.build.specs.Build.Code.Merge.{Reached, Stand, least-first}
+use Rattle.build.specs.Build.Code.{offsetsFrom, Segmented}
+use Rattle.build.specs.Build.Code.Merge.{Stand, least-first}
 use Rattle.build.specs.Build.Code.Filled.{Filled, fill-is}
 
 -- two listed alike, number by number

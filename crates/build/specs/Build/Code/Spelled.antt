@@ -3,7 +3,7 @@
 --     marksOn-snoc, lastKey-snoc, ..    one record more
 --     spells                            of records after a cut these are the selectors
 -- Assumes nothing.
-use mathlib.Core.Path.{_≡_, refl, sym, ap, _∙_}
+use mathlib.Core.Path.{_≡_, refl, ap}
 use Prim.Native.Nat.{ℕ, suc}
 use mathlib.Core.List.{List, [], _∷_, _++_, map}
 use lib.ListN.{length}

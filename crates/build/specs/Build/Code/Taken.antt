@@ -4,11 +4,9 @@
 -- Assumes nothing.
 use mathlib.Core.Path.{_≡_, refl, sym, ap, ap₂, _∙_}
 use Prim.Native.Nat.{ℕ, _+_, _%_, _≤_, _<_}
-use native.Mathlib.Nat.{add-zero}
 use native.Mathlib.Omega.{arith}
-use mathlib.Core.Bool.{cond}
 use mathlib.Core.List.{List, [], _∷_, _++_, append-assoc, append-nil}
-use lib.ListN.{length, getD, set, length-set, length-append}
+use lib.ListN.{length, set, length-set, length-append}
 use lib.Seq.{append-snoc, getD-set-same, getD-set-other}
 use lib.Dec.{eqb, ltb}
 use borrow.Author.Tests.{eqb-true, eqb-false, ltb-true, ltb-false}
@@ -26,7 +24,7 @@ use Rattle.build.specs.Build.{itemKey}
 use Rattle.build.specs.Build.Laws.{Ready}
 use Rattle.build.specs.Build.Code.{spelling, oldMark, Steps, none, more, Selecting}
 use Rattle.build.specs.Build.Code.Writes.{put-nil}
-use Rattle.build.specs.Build.Code.Merge.{Reached, Came, next-first}
+use Rattle.build.specs.Build.Code.Merge.{Reached, next-first}
 use Rattle.build.specs.Build.Code.Spelled.{marksOn, lastKey, marksOn-snoc, lastKey-snoc, length-marksOn}
 
 -- after b, the records own have been taken and written from a place on, after a key k

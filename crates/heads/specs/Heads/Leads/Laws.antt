@@ -1,30 +1,29 @@
 -- What the code of the leads needs: each law is a way out of a function, or a turn of its loop.
---     first-one, first-ahead              the first of one run, and of two stretches
---     topped-one, topped-ahead            the same of blocks
---     leading-none, -more, -all           the blocks, one by one
+--     first-one, first-ahead                         the first of one run, and of two stretches
+--     topped-one, topped-ahead                       the same of blocks
+--     kept-is, leading-none, -more, -all, -set       the blocks, one by one
 --     Ended, ended-none, -more, left-here, -none     the runs at their end, one by one
---     nexts-none, -more, -all             the keys after the next ones, run by run
---     moved-reading, -padded, ..          one record taken
---     NextRun, next-run, next-none        the run that comes next, in the tray's words
+--     nexts-none, -more, -all, after-is, -past       the keys after the next ones, run by run
+--     place-low, raised, moved                       one record taken
 -- Assumes nothing.
 use mathlib.Core.Path.{_≡_, refl, sym, ap, _∙_, subst}
-use Prim.Native.Nat.{ℕ, suc, _+_, _*_, _/_, _≤_, _<_}
+use Prim.Native.Nat.{ℕ, _+_, _*_, _/_, _≤_, _<_}
 use native.Mathlib.Numerals.{add-one}
 use native.Mathlib.Omega.{arith}
-use mathlib.Core.Bool.{true, false, cond}
+use mathlib.Core.Bool.{cond}
 use mathlib.Core.List.{List}
 use lib.ListN.{length, getD, set, length-set}
 use lib.Seq.{getD-set-same, getD-set-other}
 use lib.Dec.{eqb, ltb}
-use borrow.Author.Tests.{lt-ltb, le-ltb, ltb-true, ltb-false, eqb-true, eqb-false}
+use borrow.Author.Tests.{le-ltb, ltb-true, ltb-false, eqb-true, eqb-false}
 use Rattle.theory.specs.Tests.{cases, order}
 use Rattle.tray.specs.Frame.{runCount, countOf, runBytes}
 use Rattle.tray.specs.Frame.Laws.{upto}
-use Rattle.index.specs.Scan.{nextIn, raise}
+use Rattle.index.specs.Scan.{raise}
 use Rattle.index.specs.Scan.Code.{Reading}
 use Rattle.heads.specs.declared.lead.Lead.{Lead}
-use Rattle.heads.specs.Heads.{highest, keyOr, nextKey, Padded, Caching}
-use Rattle.heads.specs.Heads.Leads.{First, Topped, Kept, Leading, Ahead, one, all, Nexts, Heading, FirstLeft, Chosen, keyed, left}
+use Rattle.heads.specs.Heads.{highest, keyOr, nextKey}
+use Rattle.heads.specs.Heads.Leads.{First, Topped, Kept, Leading, Nexts, Heading, FirstLeft, left}
 
 module _ (keys : List ℕ) where
   pub first-one : {i r : ℕ} → i ≡ r → First keys r (r + 1) (getD keys i 0) r
