@@ -1,6 +1,5 @@
 // The builder of indexes (document 01, "The index"): each key's versions go into the current segment if all fit and else open a new one.
-pub mod group;
-pub mod heads;
+pub mod records;
 pub mod segment;
 pub mod segments;
 

@@ -1,6 +1,7 @@
 // One segment: its anchor, its offsets, the selectors of its records, and placeholders to its end.
-use crate::group::put_groups;
-use crate::heads::least;
+use crate::records::put_keys;
+use heads::lead::fill_heads;
+use heads::lead::leader;
 use number::put2;
 use number::put8;
 use number::wide_size;
@@ -9,7 +10,9 @@ ghost use Prim.Native.Nat.{_+_, _*_, _-_, _≤_};
 ghost use lib.ListN.{length, replicate};
 ghost use Rattle.number.specs.Big.{put};
 ghost use Rattle.tray.specs.Frame.{runCount};
-ghost use Rattle.build.specs.Build.Code.{Caching, offsetsFrom, Segmented};
+ghost use Rattle.index.specs.Scan.Code.{Reading};
+ghost use Rattle.heads.specs.Heads.Leads.{Heading};
+ghost use Rattle.build.specs.Build.Code.{offsetsFrom, Segmented};
 
 // The places as offsets, from byte 8 on.
 fn put_offsets(seg: &mut [u8], places: &[u16], h: u8)
@@ -36,6 +39,48 @@ fn put_placeholders(seg: &mut [u8], from: usize, to: usize)
     }
 }
 
+// A segment written from what is kept of the runs: how many records it has.
+fn put_segment(
+    t: &[u8],
+    h: u8,
+    d: u8,
+    counts: &[u16],
+    starts: &[usize],
+    places: &mut [u16],
+    keys: &mut [u64],
+    nexts: &mut [u64],
+    tops: &mut [u64],
+    firsts: &mut [u8],
+    seg: &mut [u8],
+) -> usize
+    requires { ⌜ Heading (now t) (now counts) (now starts) (now places) (now keys) (now nexts) (now tops) (now firsts) ⌝ }
+    requires { ⌜ (h ≡ runCount (now t)) × (length (now seg) ≡ 8 + 2 * h + d) ⌝ }
+    ensures { λ n. ⌜ Segmented (now (t .entry)) h d (now (places .entry)) (now (seg .entry)) (now (places .exit)) (now (seg .exit)) n ⌝ }
+{
+    let anchor = leader(tops, firsts, h).key;
+    put8(seg, 0, anchor);
+    put_offsets(seg, places, h);
+    let from = 8 + 2 * wide_size(h);
+    let to = from + wide_size(d);
+    let end = put_keys(
+        t,
+        h,
+        counts,
+        starts,
+        seg,
+        from,
+        to,
+        anchor,
+        places,
+        keys,
+        nexts,
+        tops,
+        firsts,
+    );
+    put_placeholders(seg, end, to);
+    end - from
+}
+
 // The next segment, into its own stretch of the output: how many records it has.
 pub fn write_segment(
     t: &[u8],
@@ -44,20 +89,39 @@ pub fn write_segment(
     counts: &[u16],
     starts: &[usize],
     places: &mut [u16],
-    keys: &mut [u64],
     seg: &mut [u8],
 ) -> usize
-    requires { ⌜ Caching (now t) (now counts) (now starts) (now places) (now keys) ⌝ }
+    requires { ⌜ Reading (now t) (now counts) (now starts) (now places) ⌝ }
     requires { ⌜ (h ≡ runCount (now t)) × (length (now seg) ≡ 8 + 2 * h + d) ⌝ }
     ensures { λ n. ⌜ Segmented (now (t .entry)) h d (now (places .entry)) (now (seg .entry)) (now (places .exit)) (now (seg .exit)) n ⌝ }
-    ensures { λ _. ⌜ Caching (now (t .entry)) (now (counts .entry)) (now (starts .entry)) (now (places .exit)) (now (keys .exit)) ⌝ }
+    ensures { λ _. ⌜ Reading (now (t .entry)) (now (counts .entry)) (now (starts .entry)) (now (places .exit)) ⌝ }
 {
-    let m = least(keys, h);
-    put8(seg, 0, m);
-    put_offsets(seg, places, h);
-    let from = 8 + 2 * wide_size(h);
-    let to = from + wide_size(d);
-    let end = put_groups(t, h, counts, starts, seg, from, to, places, keys);
-    put_placeholders(seg, end, to);
-    end - from
+    let mut keys = [18446744073709551615u64; 64];
+    let mut nexts = [0u64; 64];
+    let mut tops = [0u64; 8];
+    let mut firsts = [0u8; 8];
+    fill_heads(
+        t,
+        h,
+        counts,
+        starts,
+        places,
+        &mut keys,
+        &mut nexts,
+        &mut tops,
+        &mut firsts,
+    );
+    put_segment(
+        t,
+        h,
+        d,
+        counts,
+        starts,
+        places,
+        &mut keys,
+        &mut nexts,
+        &mut tops,
+        &mut firsts,
+        seg,
+    )
 }

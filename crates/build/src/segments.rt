@@ -1,5 +1,4 @@
 // All segments: counted, and written each into its own stretch of the output.
-use crate::heads::fill_keys;
 use crate::segment::write_segment;
 use index::SegmentNo;
 use index::frame::segment_at;
@@ -23,23 +22,12 @@ pub fn count_segments(t: &[u8], d: u8, f: TrayFrame, n: u64) -> u32
     let counts = f.counts;
     let starts = f.starts;
     let mut places = [0u16; 63];
-    let mut keys = [18446744073709551615u64; 64];
     let mut stretch = [0u8; 262];
-    fill_keys(t, h, &counts, &starts, &places, &mut keys);
     let w = 8 + 2 * wide_size(h) + wide_size(d);
     let mut left = n;
     let mut g: u32 = 0;
     while 0 < left {
-        let k = write_segment(
-            t,
-            h,
-            d,
-            &counts,
-            &starts,
-            &mut places,
-            &mut keys,
-            &mut stretch[..w],
-        );
+        let k = write_segment(t, h, d, &counts, &starts, &mut places, &mut stretch[..w]);
         left -= k as u64;
         g += 1;
     }
@@ -57,23 +45,12 @@ pub fn write_segments(t: &[u8], d: u8, f: TrayFrame, n: u64, out: &mut [u8]) -> 
     let counts = f.counts;
     let starts = f.starts;
     let mut places = [0u16; 63];
-    let mut keys = [18446744073709551615u64; 64];
-    fill_keys(t, h, &counts, &starts, &places, &mut keys);
     let mut left = n;
     let mut g: u32 = 0;
     while 0 < left {
         let a = segment_at(SegmentNo(g), h, d);
         let e = segment_at(SegmentNo(g + 1), h, d);
-        let k = write_segment(
-            t,
-            h,
-            d,
-            &counts,
-            &starts,
-            &mut places,
-            &mut keys,
-            &mut out[a..e],
-        );
+        let k = write_segment(t, h, d, &counts, &starts, &mut places, &mut out[a..e]);
         left -= k as u64;
         g += 1;
     }

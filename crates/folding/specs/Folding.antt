@@ -1,6 +1,7 @@
 -- The merge of a tray's runs a to b (document 01, "Folding"), as the code takes it: how far each run has been read, the merge of what is left, and
 -- the records that are noted. The laws stand below. Assumes nothing.
 pub mod Bound
+pub mod Draws
 pub mod Keeping
 pub mod Left
 pub mod Moves
@@ -9,10 +10,10 @@ pub mod Start
 pub mod Step
 use Prim.Native.Nat.{ℕ, suc, _+_, _-_, _*_, _≤_, _<_}
 use mathlib.Core.Path.{_≡_}
-use mathlib.Core.Bool.{Bool, true, false, cond}
+use mathlib.Core.Bool.{Bool, true, false, cond, _&&_}
 use mathlib.Core.List.{List, [], _∷_, map}
 use lib.ListN.{length, getD, take, drop, set}
-use lib.Dec.{ltb}
+use lib.Dec.{eqb, ltb}
 use Rattle.theory.specs.Rising.{All}
 use Rattle.theory.specs.Records.{Record}
 use Rattle.theory.specs.Hiding.{sameKey}
@@ -24,8 +25,9 @@ use Rattle.tray.specs.Run.{recordFrom}
 use Rattle.tray.specs.Check.{Sound}
 use Rattle.tray.specs.Meaning.Laws.{runIn}
 use Rattle.index.specs.Rules.{keyOf}
-use Rattle.index.specs.Scan.{raise}
-use Rattle.build.specs.Build.Code.{drawn, LeastKey}
+use Rattle.index.specs.Scan.{nextIn, hasNext, raise}
+use Rattle.heads.specs.Heads.{runsTo}
+use Rattle.heads.specs.Heads.Leads.{LeastKey}
 
 -- the runs a to b of a tray made one
 unfoldable pub mergedRun : ℕ → ℕ → List (List Record) → List Record
@@ -38,6 +40,15 @@ leftOf t places r = drop (getD places r 0) (runIn t r)
 -- what is left of all runs, made one
 unfoldable pub mergeLeft : List ℕ → List ℕ → List Record
 mergeLeft t places = merged keyOf (sameKey keyOf) (listed (runCount t) 0 (leftOf t places))
+
+-- the runs whose next record has key m
+unfoldable pub drawn : List ℕ → ℕ → List ℕ → ℕ → List ℕ
+drawn t h places m = runsTo (λ r. hasNext t places r && eqb (nextIn t places r .key) m) h
+
+-- these runs have next records, one after the other
+pub data Takeable (t : List ℕ) : List ℕ → List ℕ → Type 0 where
+  none : {places : List ℕ} → Takeable t places []
+  more : {places : List ℕ} {r : ℕ} {rs : List ℕ} → r < runCount t → getD places r 0 < countOf t r → Takeable t (raise places r) rs → Takeable t places (r ∷ rs)
 
 -- one record of each of these runs has been read
 unfoldable pub raiseAll : List ℕ → List ℕ → List ℕ

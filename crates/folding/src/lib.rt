@@ -1,8 +1,8 @@
 // The runs a to b merged: where each record that is left stands in the tray. The other runs count as read to their ends.
-use build::heads::draw;
-use build::heads::fill_keys;
-use build::heads::head_key;
-use build::heads::least;
+use heads::draw;
+use heads::fill_keys;
+use heads::head_key;
+use heads::least;
 use number::wide_size;
 use tray::Place;
 use tray::RunNo;
@@ -15,8 +15,8 @@ ghost use Rattle.tray.specs.Frame.{runCount, countOf};
 ghost use Rattle.tray.specs.Check.{Sound};
 ghost use Rattle.tray.specs.Meaning.{runsOf};
 ghost use Rattle.index.specs.Scan.{raise};
-ghost use Rattle.build.specs.Build.Code.{Caching, Takeable};
-ghost use Rattle.folding.specs.Folding.{mergedRun, mergeLeft, raiseAll, noted, Skips, Ended, Keeps, Noted, Folding};
+ghost use Rattle.heads.specs.Heads.{Caching};
+ghost use Rattle.folding.specs.Folding.{mergedRun, mergeLeft, raiseAll, Takeable, noted, Skips, Ended, Keeps, Noted, Folding};
 
 // The runs from one up to another read to their ends.
 fn skip_runs(counts: &[u16], from: usize, to: usize, places: &mut [u16])

@@ -1,140 +1,92 @@
--- What the functions of the builder promise each other: the next key of each run as it is kept, the runs that have the least one, and
--- how the versions of a key and the keys of a segment are taken. The laws stand below. Assumes nothing.
+-- What the functions of the builder promise each other: how the records of a segment are taken and written. The laws stand below.
+-- Assumes nothing.
 pub mod Answers
-pub mod Draws
 pub mod Filled
-pub mod Heads
+pub mod Given
 pub mod Loops
 pub mod Merge
-pub mod Runs
+pub mod Packed
+pub mod Records
 pub mod Segments
 pub mod Spelled
-pub mod Versions
+pub mod Taken
 pub mod Writes
-use Prim.Native.Nat.{ℕ, zero, suc, _+_, _-_, _*_, _≤_, _<_}
+use Prim.Native.Nat.{ℕ, zero, suc, _+_, _-_, _*_, _%_, _≤_, _<_}
 use mathlib.Core.Path.{_≡_}
-use mathlib.Core.Bool.{Bool, cond, _&&_}
-use mathlib.Core.List.{List, [], _∷_, _++_}
-use lib.ListN.{length, getD, take, set, replicate}
+use mathlib.Core.Bool.{cond}
+use mathlib.Core.List.{List}
+use lib.ListN.{length, getD, set, replicate}
 use lib.Dec.{eqb, ltb}
 use Rattle.number.specs.Big.{bytesOf, put}
 use Rattle.theory.specs.Records.{live}
 use Rattle.theory.specs.Pack.{joined}
 use Rattle.tray.specs.declared.frame.TrayFrame.{TrayFrame}
-use Rattle.tray.specs.Frame.{runCount, countOf, recordsBefore, runBytes, Opened}
+use Rattle.tray.specs.Frame.{runCount, recordsBefore, Opened}
 use Rattle.tray.specs.Check.{Sound}
-use Rattle.tray.specs.Run.{recordAt}
 use Rattle.theory.specs.Listed.{listed}
-use Rattle.index.specs.Scan.{nextIn, hasNext, raise}
-use Rattle.index.specs.Scan.Code.{Reading}
+use Rattle.index.specs.Scan.{nextIn, raise}
+use Rattle.heads.specs.Heads.Leads.{NextRun, NoRun, LeastKey}
 
--- the highest number of 8 bytes: what is kept of a run that has been read to its end
-abbrev pub highest : ℕ
-highest = 18446744073709551615
+-- the selector of a run's next record, with a mark
+unfoldable pub spelling : List ℕ → List ℕ → ℕ → ℕ → ℕ
+spelling t places mark r = r + (mark + cond (live (nextIn t places r)) 0 64)
 
--- the key at a place of a run of n records
-unfoldable pub keyOr : List ℕ → ℕ → ℕ → ℕ
-keyOr run n p = cond (ltb p n) (recordAt run p .key) highest
+-- the mark of a record with key k after one with key `last`
+unfoldable pub oldMark : ℕ → ℕ → ℕ
+oldMark last k = cond (eqb last k) 128 0
 
--- the next key of a run
-unfoldable pub nextKey : List ℕ → List ℕ → ℕ → ℕ
-nextKey t places r = keyOr (runBytes t r) (countOf t r) (getD places r 0)
-
--- numbers of h runs in room for 64, the highest one past them
-pub record Padded (keys : List ℕ) (h : ℕ) : Type 0 where
-  pub few : h ≤ 63
-  pub room : length keys ≡ 64
-  pub past : (i : ℕ) → h ≤ i → i < 64 → getD keys i 0 ≡ highest
-
--- the runs, how far they have been read, and the next key of each
-pub record Caching (t counts starts places keys : List ℕ) : Type 0 where
-  pub reading : Reading t counts starts places
-  pub padded : Padded keys (runCount t)
-  pub keys-are : (r : ℕ) → r < runCount t → getD keys r 0 ≡ nextKey t places r
-
--- m is the lesser of a and b
-pub record Lesser (a b m : ℕ) : Type 0 where
-  pub left : m ≤ a
-  pub right : m ≤ b
-  pub one : (c : ℕ) → c ≤ a → c ≤ b → c ≤ m
-
--- m is the least of the first h numbers, or the highest one
-pub record Least (keys : List ℕ) (h m : ℕ) : Type 0 where
-  pub low : (i : ℕ) → i < h → m ≤ getD keys i 0
-  pub got : m < highest → (i : ℕ) × (i < h) × (getD keys i 0 ≡ m)
-
--- the runs below r that pass a test
-unfoldable pub runsTo : (ℕ → Bool) → ℕ → List ℕ
-runsTo test zero = []
-runsTo test (suc r) = runsTo test r ++ cond (test r) (r ∷ []) []
-
--- run r has key m
-abbrev pub keyed : List ℕ → ℕ → ℕ → Bool
-keyed keys m r = eqb (getD keys r 0) m
-
--- run r has key m and is not at its end
-abbrev pub keyedLeft : List ℕ → List ℕ → List ℕ → ℕ → ℕ → Bool
-keyedLeft keys counts places m r = eqb (getD keys r 0) m && ltb (getD places r 0) (getD counts r 0)
-
--- the first n of a group are the runs below h that pass a test
-pub record Drew (test : ℕ → Bool) (h n : ℕ) (group : List ℕ) : Type 0 where
-  pub number : n ≡ length (runsTo test h)
-  pub runs : take n group ≡ runsTo test h
-
--- a run whose key is not the highest number is not at its end
-pub record Left (keys counts places : List ℕ) (h : ℕ) : Type 0 where
-  pub few : h ≤ 63
-  pub room-keys : length keys ≡ 64
-  pub room-counts : length counts ≡ 63
-  pub room-places : length places ≡ 63
-  pub left : (i : ℕ) → i < h → getD keys i 0 < highest → getD places i 0 < getD counts i 0
-
-module _ (t : List ℕ) where
-  -- the selector of a run's next record, with a mark
-  unfoldable pub spelling : List ℕ → ℕ → ℕ → ℕ
-  spelling places mark r = r + (mark + cond (live (nextIn t places r)) 0 64)
-
-  -- these runs have next records, one after the other
-  pub data Takeable : List ℕ → List ℕ → Type 0 where
-    none : {places : List ℕ} → Takeable places []
-    more : {places : List ℕ} {r : ℕ} {rs : List ℕ} → r < runCount t → getD places r 0 < countOf t r → Takeable (raise places r) rs → Takeable places (r ∷ rs)
-
-  -- a version of a key has been taken
-  pub record Took (counts starts : List ℕ) (places : List ℕ) (r mark v : ℕ) (places′ keys′ : List ℕ) : Type 0 where
-    pub moved : places′ ≡ raise places r
-    pub cached : Caching t counts starts places′ keys′
-    pub spelled : v ≡ spelling places mark r
-
--- places and output
-pub data Written : Type 0 where
-  written : List ℕ → List ℕ → Written
-
--- the next records of some runs taken, and their selectors written from a place on: the first with a mark, the others old
-unfoldable pub takeAll : List ℕ → List ℕ → ℕ → List ℕ → List ℕ → ℕ → Written
-takeAll t [] mark places seg at = written places seg
-takeAll t (r ∷ rs) mark places seg at = takeAll t rs 128 (raise places r) (set seg at (spelling t places mark r)) (suc at)
+-- a key that is not k
+unfoldable pub otherKey : ℕ → ℕ
+otherKey k = cond (eqb k 0) 1 0
 
 module _ (t : List ℕ) (h : ℕ) where
-  -- the runs whose next record has key m
-  unfoldable pub drawn : List ℕ → ℕ → List ℕ
-  drawn places m = runsTo (λ r. hasNext t places r && eqb (nextIn t places r .key) m) h
+  module _ (places seg : List ℕ) (from first : ℕ) where
+    -- records taken one by one as they come next, and their selectors written: places, output, where they end, and the last key
+    pub data Steps : List ℕ → List ℕ → ℕ → ℕ → Type 0 where
+      none : Steps places seg from first
+      more : {places′ seg′ : List ℕ} {at last r k : ℕ} → Steps places′ seg′ at last → NextRun t h places′ r k → at < length seg′
+          → Steps (raise places′ r) (set seg′ at (spelling t places′ (oldMark last k) r)) (at + 1) k
 
-  -- m is the least key that is left
-  pub record LeastKey (places : List ℕ) (m : ℕ) : Type 0 where
-    pub low : (r : ℕ) → r < h → m ≤ nextKey t places r
-    pub got : m < highest → (r : ℕ) × (r < h) × (nextKey t places r ≡ m)
+    -- all that have room by `to`
+    pub record Stopped (to : ℕ) (places′ seg′ : List ℕ) (at last : ℕ) : Type 0 where
+      pub steps : Steps places′ seg′ at last
+      pub begun : from ≤ at
+      pub inside : at ≤ to
+      pub all : at < to → NoRun t h places′
 
-  -- the versions of the least key written from a place on, where they end by `to`
-  pub data Puts (places seg : List ℕ) (at to : ℕ) : List ℕ → List ℕ → ℕ → Type 0 where
-    full : (m : ℕ) → LeastKey places m → to < at + length (drawn places m) → Puts places seg at to places seg 0
-    puts : (m : ℕ) {places′ seg′ : List ℕ} {n : ℕ} → LeastKey places m → at + length (drawn places m) ≤ to → n ≡ length (drawn places m)
-        → written places′ seg′ ≡ takeAll t (drawn places m) 0 places seg at → Puts places seg at to places′ seg′ n
+  -- what comes next has another key, or nothing does
+  pub data After (places : List ℕ) (last : ℕ) : Type 0 where
+    over : NoRun t h places → After places last
+    other : {r k : ℕ} → NextRun t h places r k → (k ≡ last → ⊥) → After places last
 
-  -- and so on until nothing more is written
-  pub data Fills (to : ℕ) : List ℕ → List ℕ → ℕ → List ℕ → List ℕ → ℕ → Type 0 where
-    ends : {places seg places′ seg′ : List ℕ} {at : ℕ} → Puts places seg at to places′ seg′ 0 → Fills to places seg at places′ seg′ at
-    goes : {places seg places₁ seg₁ places₂ seg₂ : List ℕ} {at n end : ℕ} → Puts places seg at to places₁ seg₁ n → 0 < n
-        → Fills to places₁ seg₁ (at + n) places₂ seg₂ end → Fills to places seg at places₂ seg₂ end
+-- the bytes from a place on and below another are selectors of runs
+pub record Selecting (seg : List ℕ) (from at : ℕ) : Type 0 where
+  pub begun : from ≤ at
+  pub room : at ≤ length seg
+  pub runs : (i : ℕ) → from ≤ i → i < at → getD seg i 0 % 64 < 63
+
+-- where it is gone back to, and the places there
+pub data Back : Type 0 where
+  stop : ℕ → List ℕ → Back
+
+-- one record of run r given back
+unfoldable pub lower : List ℕ → ℕ → List ℕ
+lower places r = set places r (getD places r 0 - 1)
+
+-- the last n selectors after a place given back, as far as one that is not old
+unfoldable pub back : List ℕ → ℕ → ℕ → List ℕ → Back
+back seg from zero places = stop from places
+back seg from (suc n) places =
+    let less = lower places (getD seg (from + n) 0 % 64) in
+    let further = back seg from n less in
+    cond (ltb (getD seg (from + n) 0) 128) (stop (from + n) less) further
+
+-- the records of key after key taken and written, as long as all of a key have room by `to`
+pub data Fills (t : List ℕ) (h : ℕ) (places seg : List ℕ) (from first to : ℕ) : List ℕ → List ℕ → ℕ → Type 0 where
+  ends : {places′ seg′ : List ℕ} {at last : ℕ} → Stopped t h places seg from first to places′ seg′ at last → After t h places′ last
+      → Fills t h places seg from first to places′ seg′ at
+  cuts : {places₁ seg′ places′ : List ℕ} {at last r e : ℕ} → Stopped t h places seg from first to places₁ seg′ at last → NextRun t h places₁ r last
+      → stop e places′ ≡ back seg′ from (at - from) places₁ → Fills t h places seg from first to places′ seg′ e
 
 -- the offsets of n runs from run r on, 2 bytes each
 unfoldable pub offsetsFrom : List ℕ → ℕ → ℕ → List ℕ
@@ -145,7 +97,7 @@ pub record Segmented (t : List ℕ) (h d : ℕ) (places seg places′ seg′ : L
   pub anchor : ℕ
   pub selectors : List ℕ
   pub least : LeastKey t h places anchor
-  pub filled : Fills t h (8 + 2 * h + d) places (put (put seg 0 (bytesOf 8 anchor)) 8 (offsetsFrom places h 0)) (8 + 2 * h) places′ selectors (8 + 2 * h + n)
+  pub filled : Fills t h places (put (put seg 0 (bytesOf 8 anchor)) 8 (offsetsFrom places h 0)) (8 + 2 * h) (otherKey anchor) (8 + 2 * h + d) places′ selectors (8 + 2 * h + n)
   pub short : n ≤ d
   pub whole : seg′ ≡ put selectors (8 + 2 * h + n) (replicate (d - n) 63)
 

@@ -46,7 +46,7 @@ pub record Ready (d : ℕ) (t : List (List Record)) : Type 0 where
 
 module _ {A : Type 0} (f : A → ℕ) where
   -- numbers from low on and below high are at most as many as there are between the two
-  rises-room : {xs : List A} (low high : ℕ) → Rises f xs → All (λ a. low ≤ f a) xs → All (λ a. f a < high) xs
+  pub rises-room : {xs : List A} (low high : ℕ) → Rises f xs → All (λ a. low ≤ f a) xs → All (λ a. f a < high) xs
       → low ≤ high → low + length xs ≤ high
   rises-room low high none above below l = omega arith
   rises-room low high (more {a} {xs} h r) above below l =

@@ -3,7 +3,7 @@
 use Rattle.folding.specs.Folding.Start.{merge-short}
 use Rattle.folding.specs.Folding.Keeping.{Merging, merging-none, merging-more, merging-end, merging-low}
 use Rattle.folding.specs.Folding.Bound.{ended-more}
-use Rattle.build.specs.Build.Code.{Caching}
+use Rattle.heads.specs.Heads.{Caching}
 use Rattle.folding.specs.Folding.{mergeLeft, Ended}
 use Rattle.tray.specs.Meaning.Back.{fits-runs}
 use Rattle.number.proofs.Known.{bytes-known}

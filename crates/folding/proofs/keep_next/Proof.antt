@@ -2,8 +2,8 @@
 -- Assumes nothing.
 use Rattle.folding.specs.Folding.Keeping.{keeps-one, keeps-none, first-has, stands-at}
 use Rattle.folding.specs.Folding.Bound.{padded-to, left-to, least-to, drew-to}
-use Rattle.build.specs.Build.Code.Draws.{takeable-group}
-use Rattle.build.specs.Build.Code.Runs.{drew-low}
+use Rattle.folding.specs.Folding.Draws.{takeable-group}
+use Rattle.heads.specs.Heads.Runs.{drew-low}
 use mathlib.Core.Path.{refl}
 use native.Mathlib.Omega.{arith}
 use borrow.Author.Needs.{needs}
@@ -53,7 +53,7 @@ slice-aggregate-move-group : tie.Need-slice-aggregate-move-group
 slice-aggregate-move-group c = search needs
 
 move-group-requires : tie.Need-move-group-requires
-move-group-requires c κs = let low = drew-low (c .before .before .before .before .before .before .before .before .before .before .before .before .before .draw .ensures) in let room = padded-to (c .before .before .before .before .before .before .before .before .before .before .before .before .before .before .before .before .before .before .before .before .before .before .before .before .before .pre .0) (c .before .before .before .before .before .before .before .before .before .before .before .before .before .before .before .before .before .before .before .before .before .before .before .before .before .pre .1 .0) in (c .before .before .before .before .before .before .before .before .before .before .before .before .before .before .before .before .before .before .before .before .before .before .before .before .before .pre .0, ((omega (arith, low, room .few, c .before .before .before .before .before .before .before .before .before .before .before .before .before .draw .kept)), takeable-group (c .before .before .before .before .before .before .before .before .before .before .before .before .before .before .before .before .before .before .before .before .before .before .before .before .before .pre .0) refl (least-to (c .before .before .before .before .before .before .before .before .before .before .before .before .before .before .before .before .before .before .before .before .before .before .before .before .before .pre .0) (c .before .before .before .before .before .before .before .before .before .before .before .before .before .before .before .before .before .before .before .before .before .before .before .before .before .pre .1 .0) (omega arith) (c .before .before .before .before .before .before .before .before .before .before .before .before .before .before .before .before .before .least .ensures)) (drew-to (c .before .before .before .before .before .before .before .before .before .before .before .before .before .before .before .before .before .before .before .before .before .before .before .before .before .pre .0) (c .before .before .before .before .before .before .before .before .before .before .before .before .before .before .before .before .before .before .before .before .before .before .before .before .before .pre .1 .0) (c .before .before .before .before .before .before .before .before .before .before .before .before .before .before .before .before .before .least .result) (c .before .before .before .before .before .before .before .before .before .before .before .before .before .draw .ensures))))
+move-group-requires c κs = let low = drew-low (c .before .before .before .before .before .before .before .before .before .before .before .before .before .draw .ensures) in let room = padded-to (c .before .before .before .before .before .before .before .before .before .before .before .before .before .before .before .before .before .before .before .before .before .before .before .before .before .pre .0) (c .before .before .before .before .before .before .before .before .before .before .before .before .before .before .before .before .before .before .before .before .before .before .before .before .before .pre .1 .0) in (c .before .before .before .before .before .before .before .before .before .before .before .before .before .before .before .before .before .before .before .before .before .before .before .before .before .pre .0, ((omega (arith, low, room .few, c .before .before .before .before .before .before .before .before .before .before .before .before .before .draw .kept)), takeable-group (c .before .before .before .before .before .before .before .before .before .before .before .before .before .before .before .before .before .before .before .before .before .before .before .before .before .pre .0) refl (c .before .before .before .before .before .before .before .before .before .before .before .before .before .before .before .before .before .least .result) (drew-to (c .before .before .before .before .before .before .before .before .before .before .before .before .before .before .before .before .before .before .before .before .before .before .before .before .before .pre .0) (c .before .before .before .before .before .before .before .before .before .before .before .before .before .before .before .before .before .before .before .before .before .before .before .before .before .pre .1 .0) (c .before .before .before .before .before .before .before .before .before .before .before .before .before .before .before .before .before .least .result) (c .before .before .before .before .before .before .before .before .before .before .before .before .before .draw .ensures))))
 
 same-length : tie.Need-same-length
 same-length c = search needs

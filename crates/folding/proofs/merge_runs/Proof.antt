@@ -1,7 +1,6 @@
 -- `folding::merge_runs` meets its contract: with the runs outside a to b at their ends, the merge of what is left is the merge of these runs.
 -- Assumes nothing.
-use Rattle.folding.specs.Folding.Moves.{folding-reading, folding-merge, folding-ended, folding-noted}
-use Rattle.build.specs.Build.Code.Loops.{padded-none}
+use Rattle.folding.specs.Folding.Moves.{padded-none, folding-reading, folding-merge, folding-ended, folding-noted}
 use borrow.Author.Needs.{needs}
 use Rattle.folding.proofs.merge_runs.Statement.{statement}
 use Rattle.folding.proofs.merge_runs.Tie as tie

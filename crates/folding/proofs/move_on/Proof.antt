@@ -1,9 +1,9 @@
 -- `folding::move_on` meets its contract: the place is raised and the next key kept. `run-cut` says that the stretch handed on is the run.
 -- Assumes nothing.
-use Rattle.build.specs.Build.Code.Versions.{version-low, took}
-use Rattle.build.specs.Build.Code.Heads.{run-cut}
+use Rattle.folding.specs.Folding.Moves.{cached-more}
+use Rattle.heads.specs.Heads.Laws.{run-cut}
+use Rattle.heads.specs.Heads.Leads.Laws.{place-low, raised}
 use lib.ListN.{length-set}
-use mathlib.Core.Path.{refl}
 use native.Mathlib.Omega.{arith}
 use borrow.Author.Needs.{needs}
 use Rattle.folding.proofs.move_on.Statement.{statement}
@@ -34,7 +34,7 @@ slice-read-p : tie.Need-slice-read-p
 slice-read-p c = omega (arith, c .before .before .before .before .before .before .before .before .before .pre .0 .reading)
 
 add-p : tie.Need-add-p
-add-p c = let v = version-low (c .before .before .before .before .before .before .before .before .before .pre .0 .reading) (c .before .before .before .before .before .before .before .before .before .pre .1 .0) (c .before .before .before .wide-size .ensures) (c .before .before .before .before .before .before .before .before .before .pre .1 .1) in let k = run-cut (c .before .before .before .before .before .before .before .before .before .pre .0 .reading) (c .before .before .before .before .before .before .before .before .before .pre .1 .0) (c .before .before .before .wide-size .ensures) in omega (arith, k .few)
+add-p c = let v = place-low (c .before .before .before .before .before .before .before .before .before .pre .0 .reading) (c .before .before .before .before .before .before .before .before .before .pre .1 .0) (c .before .before .before .wide-size .ensures) (c .before .before .before .before .before .before .before .before .before .pre .1 .1) in let k = run-cut (c .before .before .before .before .before .before .before .before .before .pre .0 .reading) (c .before .before .before .before .before .before .before .before .before .pre .1 .0) (c .before .before .before .wide-size .ensures) in omega (arith, k .few)
 
 sub-head-key : tie.Need-sub-head-key
 sub-head-key c = run-cut (c .before .before .before .before .before .before .before .before .before .pre .0 .reading) (c .before .before .before .before .before .before .before .before .before .pre .1 .0) (c .before .before .before .wide-size .ensures) .start
@@ -73,7 +73,7 @@ same-length-2 : tie.Need-same-length-2
 same-length-2 c = simp length-set
 
 returns : tie.Need-returns
-returns c = let k = took (c .before .before .before .before .before .before .before .before .before .before .before .before .pre .0) (c .before .before .before .before .before .before .before .before .before .before .before .before .pre .1 .0) (c .before .before .before .before .before .before .wide-size .ensures) (run-cut (c .before .before .before .before .before .before .before .before .before .before .before .before .pre .0 .reading) (c .before .before .before .before .before .before .before .before .before .before .before .before .pre .1 .0) (c .before .before .before .before .before .before .wide-size .ensures) .bytes) {mark = 0} refl (c .head-key .ensures) refl in (k .moved, k .cached)
+returns c = (raised _ (c .before .before .before .before .before .before .wide-size .ensures), cached-more (c .before .before .before .before .before .before .before .before .before .before .before .before .pre .0) (c .before .before .before .before .before .before .before .before .before .before .before .before .pre .1 .0) (c .before .before .before .before .before .before .wide-size .ensures) (run-cut (c .before .before .before .before .before .before .before .before .before .before .before .before .pre .0 .reading) (c .before .before .before .before .before .before .before .before .before .before .before .before .pre .1 .0) (c .before .before .before .before .before .before .wide-size .ensures) .bytes) (c .head-key .ensures))
 
 pub move-on-spec : {M : Type 1} → statement M
 move-on-spec =

@@ -16,9 +16,9 @@ use borrow.Author.Tests.{le-ltb, ltb-true, ltb-false}
 use Rattle.theory.specs.Tests.{cases, order}
 use Rattle.tray.specs.Frame.{runCount, countOf}
 use Rattle.index.specs.Scan.{raise}
-use Rattle.build.specs.Build.Code.{highest, Padded, Caching, Least, Left, runsTo, keyedLeft, Drew}
-use Rattle.build.specs.Build.Code.Draws.{left-of}
+use Rattle.heads.specs.Heads.{highest, Padded, Caching, Least, Left, runsTo, keyedLeft, Drew}
 use Rattle.folding.specs.Folding.{raiseAll, Ended, Keeps, ends, keeps}
+use Rattle.folding.specs.Folding.Draws.{left-of}
 use Rattle.folding.specs.Folding.Left.{end-key}
 
 -- runs that fail a test are not among those that pass it

@@ -28,10 +28,9 @@ use Rattle.tray.specs.Check.{Sound}
 use Rattle.tray.specs.Meaning.{runsOf, Fits}
 use Rattle.index.specs.Scan.{nextIn}
 use Rattle.index.specs.Scan.Code.{Reading}
-use Rattle.build.specs.Build.Code.{Caching, Least, Drew, keyedLeft, drawn}
-use Rattle.build.specs.Build.Code.Draws.{drawn-mem, drawn-is, drawn-number, least-key}
-use Rattle.build.specs.Build.Code.Versions.{group-next}
-use Rattle.folding.specs.Folding.{mergeLeft, raiseAll, nextAt, noted, Keeps, ends, keeps, Noted}
+use Rattle.heads.specs.Heads.{Caching, Least, Drew, keyedLeft}
+use Rattle.folding.specs.Folding.{mergeLeft, drawn, raiseAll, nextAt, noted, Keeps, ends, keeps, Noted}
+use Rattle.folding.specs.Folding.Draws.{drawn-mem, drawn-is, drawn-number, least-key, group-next}
 use Rattle.folding.specs.Folding.Left.{merge-step, merge-end}
 use Rattle.folding.specs.Folding.Raised.{length-raiseAll}
 

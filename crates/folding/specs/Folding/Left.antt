@@ -27,11 +27,12 @@ use Rattle.tray.specs.Check.{Sound}
 use Rattle.tray.specs.Meaning.{runsOf, Fits}
 use Rattle.tray.specs.Meaning.Laws.{runIn, length-runOf, getElem?-runOf, mem-runOf, mem-runsOf, rises-runOf}
 use Rattle.index.specs.Scan.{nextIn, hasNext}
-use Rattle.build.specs.Build.Code.{highest, keyOr, nextKey, drawn, LeastKey}
-use Rattle.build.specs.Build.Code.Draws.{drawn-rises, drawn-mem, mem-drawn}
-use Rattle.build.specs.Build.Code.Merge.{nextKey-has}
+use Rattle.heads.specs.Heads.{highest, keyOr, nextKey}
+use Rattle.heads.specs.Heads.Leads.{LeastKey}
+use Rattle.heads.specs.Heads.Leads.Next.{nextKey-has}
 use Rattle.index.specs.Rules.{keyOf}
-use Rattle.folding.specs.Folding.{leftOf, mergeLeft, raiseAll}
+use Rattle.folding.specs.Folding.{leftOf, mergeLeft, drawn, raiseAll}
+use Rattle.folding.specs.Folding.Draws.{drawn-rises, drawn-mem, mem-drawn}
 use Rattle.folding.specs.Folding.Raised.{raiseAll-same, raiseAll-other}
 use Rattle.folding.specs.Folding.Step.{Above, Turn, took, past, turn-some, firstOf-is, merged-turn, merged-nils}
 

@@ -1,38 +1,27 @@
 -- `build::segments::count_segments` meets its contract. Invariant: g segments have been cut, and the rest of the view is left. Measure: the
 -- records left. Assumes nothing.
-use Rattle.build.specs.Build.Code.Loops.{front-long, front-back}
-use Rattle.build.specs.Build.Bytes.{cuts-few}
-use Rattle.build.specs.Build.Code.Loops.{Merging, merging-none, merging-low, merging-end, merging-less, merging-more, sounded-ready, sounded-fits, sounded-reading, padded-none}
-use Rattle.build.specs.Build.Code.{Caching}
-use Rattle.number.proofs.Known.{bytes-known}
-use lib.ListN.{length}
-use mathlib.Core.Path.{_≡_, refl, sym}
 use Prim.Native.Nat.{_+_, _*_}
+use mathlib.Core.Path.{_≡_, refl, sym}
+use lib.ListN.{length}
+use Rattle.number.proofs.Known.{bytes-known}
+use Rattle.index.specs.Scan.Code.{Reading}
+use Rattle.build.specs.Build.Code.Loops.{Merging, merging-none, merging-low, merging-end, merging-less, merging-more, sounded-ready, sounded-fits, sounded-reading}
+use Rattle.build.specs.Build.Bytes.{cuts-few}
+use Rattle.build.specs.Build.Code.Loops.{front-long, front-back}
 use native.Mathlib.Omega.{arith}
 use borrow.Author.Needs.{needs}
 use Rattle.build.proofs.segments.count_segments.Statement.{statement}
 use Rattle.build.proofs.segments.count_segments.Tie as tie
+use Rattle.build.proofs.segments.count_segments.Reads as reads
+use Rattle.build.proofs.segments.count_segments.Lts as lts
+use Rattle.build.proofs.segment.write_segment.Reads as write-segment-reads
+use Rattle.number.proofs.wide_size.Reads as wide-size-reads
 
 abbrev Inv-loop : tie.InvT-loop
-Inv-loop t d n h counts starts places₀ keys₀ stretch₀ w left₀ g₀ places keys stretch left g = Caching t counts starts places keys × Merging t d places left g × (length stretch ≡ 262)
+Inv-loop t d n h counts starts places₀ stretch₀ w left₀ g₀ places stretch left g = Reading t counts starts places × Merging t d places left g × (length stretch ≡ 262)
 
 abbrev μ-loop : tie.MeasureT-loop
-μ-loop t d n h counts starts places₀ keys₀ stretch₀ w left₀ g₀ places keys stretch left g = left
-
-slice-aggregate-fill-keys : tie.Need-slice-aggregate-fill-keys Inv-loop μ-loop
-slice-aggregate-fill-keys c = sym (c .before .before .before .before .pre .opened .room)
-
-slice-aggregate-fill-keys-2 : tie.Need-slice-aggregate-fill-keys-2 Inv-loop μ-loop
-slice-aggregate-fill-keys-2 c = sym (c .before .before .before .before .before .pre .opened .at .room)
-
-slice-aggregate-fill-keys-3 : tie.Need-slice-aggregate-fill-keys-3 Inv-loop μ-loop
-slice-aggregate-fill-keys-3 c = refl
-
-slice-aggregate-fill-keys-4 : tie.Need-slice-aggregate-fill-keys-4 Inv-loop μ-loop
-slice-aggregate-fill-keys-4 c = refl
-
-fill-keys-requires : tie.Need-fill-keys-requires Inv-loop μ-loop
-fill-keys-requires c κs = (sounded-reading (c .before .before .before .before .before .before .before .pre) refl, (c .before .before .before .before .before .before .before .pre .opened .runs, padded-none))
+μ-loop t d n h counts starts places₀ stretch₀ w left₀ g₀ places stretch left g = left
 
 wide-size-requires : tie.Need-wide-size-requires Inv-loop μ-loop
 wide-size-requires c κs = search needs
@@ -50,43 +39,40 @@ add-w-2 : tie.Need-add-w-2 Inv-loop μ-loop
 add-w-2 c = omega arith
 
 loop-holds : tie.Need-loop-holds Inv-loop μ-loop
-loop-holds c = (c .before .before .before .fill-keys .ensures, merging-none _ (sounded-ready (c .before .before .before .before .before .before .before .before .before .before .before .pre)) (c .before .before .before .before .before .before .before .before .before .before .before .pre .records), refl)
+loop-holds c = (sounded-reading (c .before .before .before .before .before .pre) refl, merging-none _ (sounded-ready (c .before .before .before .before .before .pre)) (c .before .before .before .before .before .pre .records), refl)
 
 slice-aggregate-write-segment : tie.Need-slice-aggregate-write-segment Inv-loop μ-loop
-slice-aggregate-write-segment c = sym (c .before .before .before .before .before .before .before .before .before .before .before .before .before .before .pre .opened .room)
+slice-aggregate-write-segment c = sym (c .before .before .before .before .before .before .before .before .pre .opened .room)
 
 slice-aggregate-write-segment-2 : tie.Need-slice-aggregate-write-segment-2 Inv-loop μ-loop
-slice-aggregate-write-segment-2 c = sym (c .before .before .before .before .before .before .before .before .before .before .before .before .before .before .before .pre .opened .at .room)
+slice-aggregate-write-segment-2 c = sym (c .before .before .before .before .before .before .before .before .before .pre .opened .at .room)
 
 slice-aggregate-write-segment-3 : tie.Need-slice-aggregate-write-segment-3 Inv-loop μ-loop
-slice-aggregate-write-segment-3 c = sym (c .before .before .before .before .loop .inv .0 .reading .room-places)
-
-slice-aggregate-write-segment-4 : tie.Need-slice-aggregate-write-segment-4 Inv-loop μ-loop
-slice-aggregate-write-segment-4 c = sym (c .before .before .before .before .before .loop .inv .0 .padded .room)
+slice-aggregate-write-segment-3 c = sym (c .before .before .before .before .loop .inv .0 .room-places)
 
 array-borrow-prefix-stretch : tie.Need-array-borrow-prefix-stretch Inv-loop μ-loop
-array-borrow-prefix-stretch c = omega (arith, c .before .before .before .before .before .before .before .before .before .before .before .before .before .before .before .before .before .pre .opened .few, c .before .before .before .before .before .before .before .before .before .before .before .before .before .before .before .before .before .pre .most, c .before .before .before .before .before .loop .inv .2, c .before .before .before .before .before .before .before .wide-size .ensures, c .before .before .before .before .before .before .wide-size2 .ensures)
+array-borrow-prefix-stretch c = omega (arith, c .before .before .before .before .before .before .before .before .before .before .pre .opened .few, c .before .before .before .before .before .before .before .before .before .before .pre .most, c .before .before .before .before .loop .inv .2, c .before .before .before .before .before .before .wide-size .ensures, c .before .before .before .before .before .wide-size2 .ensures)
 
-slice-aggregate-write-segment-5 : tie.Need-slice-aggregate-write-segment-5 Inv-loop μ-loop
-slice-aggregate-write-segment-5 c = sym (front-long _ _ (omega (arith, c .before .before .before .before .before .before .before .before .before .before .before .before .before .before .before .before .before .before .pre .opened .few, c .before .before .before .before .before .before .before .before .before .before .before .before .before .before .before .before .before .before .pre .most, c .before .before .before .before .before .before .loop .inv .2, c .before .before .before .before .before .before .before .before .wide-size .ensures, c .before .before .before .before .before .before .before .wide-size2 .ensures)) refl)
+slice-aggregate-write-segment-4 : tie.Need-slice-aggregate-write-segment-4 Inv-loop μ-loop
+slice-aggregate-write-segment-4 c = sym (front-long _ _ (omega (arith, c .before .before .before .before .before .before .before .before .before .before .before .pre .opened .few, c .before .before .before .before .before .before .before .before .before .before .before .pre .most, c .before .before .before .before .before .loop .inv .2, c .before .before .before .before .before .before .before .wide-size .ensures, c .before .before .before .before .before .before .wide-size2 .ensures)) refl)
 
 write-segment-requires : tie.Need-write-segment-requires Inv-loop μ-loop
-write-segment-requires c κs = (c .before .before .before .before .before .before .loop .inv .0, (c .before .before .before .before .before .before .before .before .before .before .before .before .before .before .before .before .before .before .pre .opened .runs, (front-long (8 + 2 * (c .before .before .before .before .before .before .before .before .wide-size .result) + c .before .before .before .before .before .before .before .wide-size2 .result) (c .before .before .before .before .before .before .loop .stretch) (omega (arith, c .before .before .before .before .before .before .before .before .before .before .before .before .before .before .before .before .before .before .pre .opened .few, c .before .before .before .before .before .before .before .before .before .before .before .before .before .before .before .before .before .before .pre .most, c .before .before .before .before .before .before .loop .inv .2, c .before .before .before .before .before .before .before .before .wide-size .ensures, c .before .before .before .before .before .before .before .wide-size2 .ensures)) (omega (arith, c .before .before .before .before .before .before .before .before .wide-size .ensures, c .before .before .before .before .before .before .before .wide-size2 .ensures)))))
+write-segment-requires c κs = (c .before .before .before .before .before .loop .inv .0, (c .before .before .before .before .before .before .before .before .before .before .before .pre .opened .runs, (front-long (8 + 2 * (c .before .before .before .before .before .before .before .wide-size .result) + c .before .before .before .before .before .before .wide-size2 .result) (c .before .before .before .before .before .loop .stretch) (omega (arith, c .before .before .before .before .before .before .before .before .before .before .before .pre .opened .few, c .before .before .before .before .before .before .before .before .before .before .before .pre .most, c .before .before .before .before .before .loop .inv .2, c .before .before .before .before .before .before .before .wide-size .ensures, c .before .before .before .before .before .before .wide-size2 .ensures)) (omega (arith, c .before .before .before .before .before .before .before .wide-size .ensures, c .before .before .before .before .before .before .wide-size2 .ensures)))))
 
 sub-left : tie.Need-sub-left Inv-loop μ-loop
-sub-left c = merging-less (c .before .before .before .before .before .before .before .before .before .before .before .before .before .before .before .before .before .before .before .before .before .before .args .t .now) (sounded-ready (c .before .before .before .before .before .before .before .before .before .before .before .before .before .before .before .before .before .before .before .before .before .before .pre)) (sounded-fits (c .before .before .before .before .before .before .before .before .before .before .before .before .before .before .before .before .before .before .before .before .before .before .pre) (bytes-known (c .before .before .before .before .before .before .before .before .before .before .before .before .before .before .before .before .before .before .before .before .before .before .args .t .now) (c .before .before .before .before .before .before .before .before .before .before .before .before .before .before .before .before .before .before .before .before .before .shared-slice-known .given))) (c .before .before .before .before .before .before .before .before .before .before .before .before .before .before .before .before .before .before .before .before .before .before .pre .opened .runs) (c .before .before .before .before .before .before .before .before .before .before .loop .inv .1) (c .before .before .before .before .before .before .before .before .before .loop-test .taken) (front-long (8 + 2 * (c .before .before .before .before .before .before .before .before .before .before .before .before .wide-size .result) + c .before .before .before .before .before .before .before .before .before .before .before .wide-size2 .result) (c .before .before .before .before .before .before .before .before .before .before .loop .stretch) (omega (arith, c .before .before .before .before .before .before .before .before .before .before .before .before .before .before .before .before .before .before .before .before .before .before .pre .opened .few, c .before .before .before .before .before .before .before .before .before .before .before .before .before .before .before .before .before .before .before .before .before .before .pre .most, c .before .before .before .before .before .before .before .before .before .before .loop .inv .2, c .before .before .before .before .before .before .before .before .before .before .before .before .wide-size .ensures, c .before .before .before .before .before .before .before .before .before .before .before .wide-size2 .ensures)) (omega (arith, c .before .before .before .before .before .before .before .before .before .before .before .before .wide-size .ensures, c .before .before .before .before .before .before .before .before .before .before .before .wide-size2 .ensures))) (c .before .before .before .write-segment .ensures .0) .1
+sub-left c = merging-less (c .before .before .before .before .before .before .before .before .before .before .before .before .before .before .args .t .now) (sounded-ready (c .before .before .before .before .before .before .before .before .before .before .before .before .before .before .pre)) (sounded-fits (c .before .before .before .before .before .before .before .before .before .before .before .before .before .before .pre) (bytes-known (c .before .before .before .before .before .before .before .before .before .before .before .before .before .before .args .t .now) (c .before .before .before .before .before .before .before .before .before .before .before .before .before .shared-slice-known .given))) (c .before .before .before .before .before .before .before .before .before .before .before .before .before .before .pre .opened .runs) (c .before .before .before .before .before .before .before .before .loop .inv .1) (c .before .before .before .before .before .before .before .loop-test .taken) (front-long (8 + 2 * (c .before .before .before .before .before .before .before .before .before .before .wide-size .result) + c .before .before .before .before .before .before .before .before .before .wide-size2 .result) (c .before .before .before .before .before .before .before .before .loop .stretch) (omega (arith, c .before .before .before .before .before .before .before .before .before .before .before .before .before .before .pre .opened .few, c .before .before .before .before .before .before .before .before .before .before .before .before .before .before .pre .most, c .before .before .before .before .before .before .before .before .loop .inv .2, c .before .before .before .before .before .before .before .before .before .before .wide-size .ensures, c .before .before .before .before .before .before .before .before .before .wide-size2 .ensures)) (omega (arith, c .before .before .before .before .before .before .before .before .before .before .wide-size .ensures, c .before .before .before .before .before .before .before .before .before .wide-size2 .ensures))) (c .before .before .write-segment .ensures .0) .1
 
 add-g : tie.Need-add-g Inv-loop μ-loop
-add-g c = omega (arith, merging-low (c .before .before .before .before .before .before .before .before .before .before .before .before .before .before .before .before .before .before .before .before .before .before .args .t .now) (sounded-ready (c .before .before .before .before .before .before .before .before .before .before .before .before .before .before .before .before .before .before .before .before .before .before .pre)) (c .before .before .before .before .before .before .before .before .before .before .loop .inv .1) (c .before .before .before .before .before .before .before .before .before .loop-test .taken), cuts-few (sounded-ready (c .before .before .before .before .before .before .before .before .before .before .before .before .before .before .before .before .before .before .before .before .before .before .pre)) (sounded-fits (c .before .before .before .before .before .before .before .before .before .before .before .before .before .before .before .before .before .before .before .before .before .before .pre) (bytes-known (c .before .before .before .before .before .before .before .before .before .before .before .before .before .before .before .before .before .before .before .before .before .before .args .t .now) (c .before .before .before .before .before .before .before .before .before .before .before .before .before .before .before .before .before .before .before .before .before .shared-slice-known .given))))
+add-g c = omega (arith, merging-low (c .before .before .before .before .before .before .before .before .before .before .before .before .before .before .args .t .now) (sounded-ready (c .before .before .before .before .before .before .before .before .before .before .before .before .before .before .pre)) (c .before .before .before .before .before .before .before .before .loop .inv .1) (c .before .before .before .before .before .before .before .loop-test .taken), cuts-few (sounded-ready (c .before .before .before .before .before .before .before .before .before .before .before .before .before .before .pre)) (sounded-fits (c .before .before .before .before .before .before .before .before .before .before .before .before .before .before .pre) (bytes-known (c .before .before .before .before .before .before .before .before .before .before .before .before .before .before .args .t .now) (c .before .before .before .before .before .before .before .before .before .before .before .before .before .shared-slice-known .given))))
 
 loop-less : tie.Need-loop-less Inv-loop μ-loop
-loop-less c = let k = merging-less (c .before .before .before .before .before .before .before .before .before .before .before .before .before .before .before .before .before .before .before .before .before .before .args .t .now) (sounded-ready (c .before .before .before .before .before .before .before .before .before .before .before .before .before .before .before .before .before .before .before .before .before .before .pre)) (sounded-fits (c .before .before .before .before .before .before .before .before .before .before .before .before .before .before .before .before .before .before .before .before .before .before .pre) (bytes-known (c .before .before .before .before .before .before .before .before .before .before .before .before .before .before .before .before .before .before .before .before .before .before .args .t .now) (c .before .before .before .before .before .before .before .before .before .before .before .before .before .before .before .before .before .before .before .before .before .shared-slice-known .given))) (c .before .before .before .before .before .before .before .before .before .before .before .before .before .before .before .before .before .before .before .before .before .before .pre .opened .runs) (c .before .before .before .before .before .before .before .before .before .before .loop .inv .1) (c .before .before .before .before .before .before .before .before .before .loop-test .taken) (front-long (8 + 2 * (c .before .before .before .before .before .before .before .before .before .before .before .before .wide-size .result) + c .before .before .before .before .before .before .before .before .before .before .before .wide-size2 .result) (c .before .before .before .before .before .before .before .before .before .before .loop .stretch) (omega (arith, c .before .before .before .before .before .before .before .before .before .before .before .before .before .before .before .before .before .before .before .before .before .before .pre .opened .few, c .before .before .before .before .before .before .before .before .before .before .before .before .before .before .before .before .before .before .before .before .before .before .pre .most, c .before .before .before .before .before .before .before .before .before .before .loop .inv .2, c .before .before .before .before .before .before .before .before .before .before .before .before .wide-size .ensures, c .before .before .before .before .before .before .before .before .before .before .before .wide-size2 .ensures)) (omega (arith, c .before .before .before .before .before .before .before .before .before .before .before .before .wide-size .ensures, c .before .before .before .before .before .before .before .before .before .before .before .wide-size2 .ensures))) (c .before .before .before .write-segment .ensures .0) in omega (arith, k .0, k .1)
+loop-less c = let k = merging-less (c .before .before .before .before .before .before .before .before .before .before .before .before .before .before .args .t .now) (sounded-ready (c .before .before .before .before .before .before .before .before .before .before .before .before .before .before .pre)) (sounded-fits (c .before .before .before .before .before .before .before .before .before .before .before .before .before .before .pre) (bytes-known (c .before .before .before .before .before .before .before .before .before .before .before .before .before .before .args .t .now) (c .before .before .before .before .before .before .before .before .before .before .before .before .before .shared-slice-known .given))) (c .before .before .before .before .before .before .before .before .before .before .before .before .before .before .pre .opened .runs) (c .before .before .before .before .before .before .before .before .loop .inv .1) (c .before .before .before .before .before .before .before .loop-test .taken) (front-long (8 + 2 * (c .before .before .before .before .before .before .before .before .before .before .wide-size .result) + c .before .before .before .before .before .before .before .before .before .wide-size2 .result) (c .before .before .before .before .before .before .before .before .loop .stretch) (omega (arith, c .before .before .before .before .before .before .before .before .before .before .before .before .before .before .pre .opened .few, c .before .before .before .before .before .before .before .before .before .before .before .before .before .before .pre .most, c .before .before .before .before .before .before .before .before .loop .inv .2, c .before .before .before .before .before .before .before .before .before .before .wide-size .ensures, c .before .before .before .before .before .before .before .before .before .wide-size2 .ensures)) (omega (arith, c .before .before .before .before .before .before .before .before .before .before .wide-size .ensures, c .before .before .before .before .before .before .before .before .before .wide-size2 .ensures))) (c .before .before .write-segment .ensures .0) in omega (arith, k .0, k .1)
 
 loop-again : tie.Need-loop-again Inv-loop μ-loop
-loop-again c = (c .before .before .before .write-segment .ensures .1, merging-more (c .before .before .before .before .before .before .before .before .before .before .before .before .before .before .before .before .before .before .before .before .before .before .args .t .now) (sounded-ready (c .before .before .before .before .before .before .before .before .before .before .before .before .before .before .before .before .before .before .before .before .before .before .pre)) (sounded-fits (c .before .before .before .before .before .before .before .before .before .before .before .before .before .before .before .before .before .before .before .before .before .before .pre) (bytes-known (c .before .before .before .before .before .before .before .before .before .before .before .before .before .before .before .before .before .before .before .before .before .before .args .t .now) (c .before .before .before .before .before .before .before .before .before .before .before .before .before .before .before .before .before .before .before .before .before .shared-slice-known .given))) (c .before .before .before .before .before .before .before .before .before .before .before .before .before .before .before .before .before .before .before .before .before .before .pre .opened .runs) (c .before .before .before .before .before .before .before .before .before .before .loop .inv .1) (c .before .before .before .before .before .before .before .before .before .loop-test .taken) (front-long (8 + 2 * (c .before .before .before .before .before .before .before .before .before .before .before .before .wide-size .result) + c .before .before .before .before .before .before .before .before .before .before .before .wide-size2 .result) (c .before .before .before .before .before .before .before .before .before .before .loop .stretch) (omega (arith, c .before .before .before .before .before .before .before .before .before .before .before .before .before .before .before .before .before .before .before .before .before .before .pre .opened .few, c .before .before .before .before .before .before .before .before .before .before .before .before .before .before .before .before .before .before .before .before .before .before .pre .most, c .before .before .before .before .before .before .before .before .before .before .loop .inv .2, c .before .before .before .before .before .before .before .before .before .before .before .before .wide-size .ensures, c .before .before .before .before .before .before .before .before .before .before .before .wide-size2 .ensures)) (omega (arith, c .before .before .before .before .before .before .before .before .before .before .before .before .wide-size .ensures, c .before .before .before .before .before .before .before .before .before .before .before .wide-size2 .ensures))) (c .before .before .before .write-segment .ensures .0), front-back (8 + 2 * (c .before .before .before .before .before .before .before .before .before .before .before .before .wide-size .result) + c .before .before .before .before .before .before .before .before .before .before .before .wide-size2 .result) (c .before .before .before .before .before .before .before .before .before .before .loop .stretch) (c .before .before .before .write-segment .last .1 .1 .1 .1 .1 .1 .1 .0) (omega (arith, c .before .before .before .before .before .before .before .before .before .before .before .before .before .before .before .before .before .before .before .before .before .before .pre .opened .few, c .before .before .before .before .before .before .before .before .before .before .before .before .before .before .before .before .before .before .before .before .before .before .pre .most, c .before .before .before .before .before .before .before .before .before .before .loop .inv .2, c .before .before .before .before .before .before .before .before .before .before .before .before .wide-size .ensures, c .before .before .before .before .before .before .before .before .before .before .before .wide-size2 .ensures)) (c .before .before .before .write-segment .kept .1 .1 .1 .1 .1 .1 .1 .0) (c .before .before .before .before .before .before .before .before .before .before .loop .inv .2))
+loop-again c = (c .before .before .write-segment .ensures .1, merging-more (c .before .before .before .before .before .before .before .before .before .before .before .before .before .before .args .t .now) (sounded-ready (c .before .before .before .before .before .before .before .before .before .before .before .before .before .before .pre)) (sounded-fits (c .before .before .before .before .before .before .before .before .before .before .before .before .before .before .pre) (bytes-known (c .before .before .before .before .before .before .before .before .before .before .before .before .before .before .args .t .now) (c .before .before .before .before .before .before .before .before .before .before .before .before .before .shared-slice-known .given))) (c .before .before .before .before .before .before .before .before .before .before .before .before .before .before .pre .opened .runs) (c .before .before .before .before .before .before .before .before .loop .inv .1) (c .before .before .before .before .before .before .before .loop-test .taken) (front-long (8 + 2 * (c .before .before .before .before .before .before .before .before .before .before .wide-size .result) + c .before .before .before .before .before .before .before .before .before .wide-size2 .result) (c .before .before .before .before .before .before .before .before .loop .stretch) (omega (arith, c .before .before .before .before .before .before .before .before .before .before .before .before .before .before .pre .opened .few, c .before .before .before .before .before .before .before .before .before .before .before .before .before .before .pre .most, c .before .before .before .before .before .before .before .before .loop .inv .2, c .before .before .before .before .before .before .before .before .before .before .wide-size .ensures, c .before .before .before .before .before .before .before .before .before .wide-size2 .ensures)) (omega (arith, c .before .before .before .before .before .before .before .before .before .before .wide-size .ensures, c .before .before .before .before .before .before .before .before .before .wide-size2 .ensures))) (c .before .before .write-segment .ensures .0), front-back (8 + 2 * (c .before .before .before .before .before .before .before .before .before .before .wide-size .result) + c .before .before .before .before .before .before .before .before .before .wide-size2 .result) (c .before .before .before .before .before .before .before .before .loop .stretch) (c .before .before .write-segment .last .1 .1 .1 .1 .1 .1 .0) (omega (arith, c .before .before .before .before .before .before .before .before .before .before .before .before .before .before .pre .opened .few, c .before .before .before .before .before .before .before .before .before .before .before .before .before .before .pre .most, c .before .before .before .before .before .before .before .before .loop .inv .2, c .before .before .before .before .before .before .before .before .before .before .wide-size .ensures, c .before .before .before .before .before .before .before .before .before .wide-size2 .ensures)) (c .before .before .write-segment .kept .1 .1 .1 .1 .1 .1 .0) (c .before .before .before .before .before .before .before .before .loop .inv .2))
 
 returns : tie.Need-returns Inv-loop μ-loop
-returns c = merging-end _ (sounded-ready (c .before .before .before .before .before .before .before .before .before .before .before .before .before .pre)) (c .before .loop .inv .1) (omega arith)
+returns c = merging-end _ (sounded-ready (c .before .before .before .before .before .before .before .pre)) (c .before .loop .inv .1) (omega arith)
 
 pub count-segments-spec : {M : Type 1} → statement M
 count-segments-spec =
@@ -94,11 +80,6 @@ count-segments-spec =
     (tie.spec
     Inv-loop
     μ-loop
-    slice-aggregate-fill-keys
-    slice-aggregate-fill-keys-2
-    slice-aggregate-fill-keys-3
-    slice-aggregate-fill-keys-4
-    fill-keys-requires
     wide-size-requires
     mul-w
     add-w
@@ -108,9 +89,8 @@ count-segments-spec =
     slice-aggregate-write-segment
     slice-aggregate-write-segment-2
     slice-aggregate-write-segment-3
-    slice-aggregate-write-segment-4
     array-borrow-prefix-stretch
-    slice-aggregate-write-segment-5
+    slice-aggregate-write-segment-4
     write-segment-requires
     sub-left
     add-g

@@ -33,7 +33,8 @@ use Rattle.build.specs.Build.{itemKey, cuts, segmentBytes, segmentsBytes
 use Rattle.build.specs.Build.Laws.{Ready, length-view}
 use Rattle.build.specs.Build.Bytes.{length-segmentBytes}
 use Rattle.build.specs.Build.Theorems.{sound-ready}
-use Rattle.build.specs.Build.Code.{highest, Padded, Segmented, Sounded}
+use Rattle.heads.specs.Heads.{highest, Padded}
+use Rattle.build.specs.Build.Code.{Segmented, Sounded}
 use Rattle.build.specs.Build.Code.Writes.{put-nil}
 use Rattle.build.specs.Build.Code.Merge.{Stand}
 use Rattle.build.specs.Build.Code.Segments.{Cutting, segment-is}

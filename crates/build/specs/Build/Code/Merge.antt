@@ -1,51 +1,52 @@
--- The step of the merge as the code takes it: the runs whose next record has the least key hold the next records of the view.
---     Stand                        the records before the places, and what is left
---     nextKey-has                  the next key of a run with something left
---     Group, group-drawn           the records of the runs that are drawn: the view's next ones, and all that have their key
+-- The step of the merge as the code takes it: the record of the run that comes next is the next one of the view.
+--     Stand, Reached               the records before the places, and what is left
+--     Came, next-first             the record of the run that comes next
+--     none-left                    where no run comes next nothing is left
+--     least-first                  the least key left is the first record's
 -- Assumes nothing.
-use mathlib.Core.Path.{_≡_, sym, ap, _∙_, subst}
-use Prim.Native.Nat.{ℕ, _^_, _≤_, _<_}
+use mathlib.Core.Path.{_≡_, refl, sym, ap, _∙_}
+use Prim.Native.Nat.{ℕ, _*_, _+_, _^_, _≤_, _<_}
 use native.Mathlib.Nat.{zero-add}
 use native.Mathlib.Omega.{arith}
-use mathlib.Core.Bool.{false}
 use mathlib.Core.Option.{some, Option·some-injective}
-use mathlib.Core.List.{List, [], _∷_, _++_, map, List·Memᴰ·not-nil, Memᴰ·map, Memᴰ·of-map}
-use lib.ListN.{length, getD, getElem?}
+use mathlib.Core.List.{List, [], _∷_, _++_, List·Memᴰ·not-nil}
+use lib.ListN.{getD, getElem?}
 use lib.Dec.{ltb}
-use borrow.Author.Tests.{lt-ltb, ltb-true, ltb-false}
+use borrow.Author.Tests.{ltb-true, ltb-false}
 use Rattle.theory.specs.Rising.{Mem, All}
-use Rattle.theory.specs.Rising.Laws.{same-members, rises-map}
-use Rattle.theory.specs.Tests.{cases}
-use Rattle.theory.specs.View.{At, view}
+use Rattle.theory.specs.Tests.{cases, order}
+use Rattle.theory.specs.View.{At, rank, view}
 use Rattle.theory.specs.Lists.{place-lt}
 use Rattle.theory.specs.View.Entries.{at-run, at-mem}
-use Rattle.theory.specs.Places.{rest, passed, count, Head, versions}
+use Rattle.theory.specs.Places.{rest, passed, count, Head}
 use Rattle.theory.specs.Places.Passed.{passed-count}
-use Rattle.theory.specs.Places.Rest.{rest-end}
-use Rattle.theory.specs.Places.Steps.{versions-head, head-versions, versions-key, versions-runs, versions-length, step, step-above}
+use Rattle.theory.specs.Places.Rest.{rest-zero, rest-end, rest-rises}
+use Rattle.theory.specs.Places.Laws.{stretch-back, first-head}
 use Rattle.tray.specs.Frame.{runCount, countOf, runBytes}
 use Rattle.tray.specs.Run.{recordAt}
 use Rattle.tray.specs.Meaning.{runsOf, Fits, FitsRecord}
 use Rattle.tray.specs.Meaning.Laws.{length-runOf, getElem?-runOf, length-runsOf, runAt-runsOf, runIn}
 use Rattle.index.specs.Rules.{Item, keyOf}
-use Rattle.index.specs.Rules.Cuts.{Cut, cut-rest}
+use Rattle.index.specs.Rules.Cuts.{Cut, first-least}
 use Rattle.index.specs.Scan.{nextIn}
+use Rattle.index.specs.Scan.Heads.{head-left}
 use Rattle.index.specs.Scan.Places.{placesOf, getD-placesOf}
+use Rattle.heads.specs.Heads.{highest}
+use Rattle.heads.specs.Heads.Leads.{NextRun, NoRun, LeastKey}
+use Rattle.heads.specs.Heads.Leads.Next.{nextKey-has, nextKey-low}
 use Rattle.build.specs.Build.{itemKey}
 use Rattle.build.specs.Build.Laws.{Ready, below-64}
 use Rattle.build.specs.Build.Bytes.{runAt-has}
-use Rattle.build.specs.Build.Code.{highest, keyOr, nextKey, drawn, LeastKey}
-use Rattle.build.specs.Build.Code.Draws.{drawn-rises, drawn-mem, mem-drawn}
 
 -- the records b have been read, w are left, and the places say so
+pub record Reached (t : List ℕ) (b w : List Item) (places : List ℕ) : Type 0 where
+  pub whole : view keyOf (runsOf t) ≡ b ++ w
+  pub is : places ≡ placesOf b
+
+-- the same between two keys
 pub record Stand (t : List ℕ) (b w : List Item) (places : List ℕ) : Type 0 where
   pub cut : Cut (runsOf t) b w
   pub is : places ≡ placesOf b
-
--- the next key of a run with something left
-pub nextKey-has : (t places : List ℕ) (r : ℕ) → getD places r 0 < countOf t r → nextKey t places r ≡ nextIn t places r .key
-unfolding nextKey keyOr nextIn
-nextKey-has t places r l = rw (lt-ltb (getD places r 0) (countOf t r) l)
 
 -- a record of the tray, by its run and place
 pub record Stands (t : List ℕ) (e : Item) : Type 0 where
@@ -68,44 +69,50 @@ entryAt t r p = record { run = r; place = p; item = recordAt (runBytes t r) p }
 at-entry : (t : List ℕ) (r p : ℕ) → r < runCount t → p < countOf t r → At (runsOf t) (entryAt t r p)
 at-entry t r p l k = rw (runAt-runsOf t r l) (getElem?-runOf (countOf t r) (runBytes t r) p k)
 
--- the records es of the runs rs, all of key m: the next ones of w, and v are left
-pub record Group (t : List ℕ) (b w : List Item) (rs : List ℕ) (m : ℕ) : Type 0 where
-  pub own : List Item
+-- the record of run r came, with key k, and the others are left
+pub record Came (t : List ℕ) (w : List Item) (places : List ℕ) (r k : ℕ) : Type 0 where
+  pub record-is : Item
   pub left : List Item
-  pub runs : map (λ e. e .run) own ≡ rs
-  pub parts : w ≡ own ++ left
-  pub key : (e : Item) → Mem e own → itemKey e ≡ m
-  pub above : (e : Item) → Mem e left → m < itemKey e
-  pub few : length own ≤ runCount t
-  pub end : length own ≡ 0 → w ≡ []
+  pub parts : w ≡ record-is ∷ left
+  pub run : record-is .run ≡ r
+  pub key : itemKey record-is ≡ k
+  pub item : record-is .item ≡ nextIn t places r
 
-module _ {d : ℕ} {t : List ℕ} (ready : Ready d (runsOf t)) (fits : Fits (runsOf t)) {b w : List Item} {places : List ℕ} (stand : Stand t b w places) where
+module _ {d : ℕ} {t : List ℕ} (ready : Ready d (runsOf t)) (fits : Fits (runsOf t)) {b w : List Item} {places : List ℕ} (reached : Reached t b w places) where
   -- how far each run has been read
   after : ℕ → ℕ
   after = passed (λ _. 0) b
 
   after-is : (r : ℕ) → r < 63 → after r ≡ getD places r 0
   unfolding after
-  after-is r l = passed-count (λ _. 0) b r ∙ zero-add (count r b) ∙ sym (ap (λ (ps : List ℕ). getD ps r 0) (stand .is) ∙ getD-placesOf b r l)
+  after-is r l = passed-count (λ _. 0) b r ∙ zero-add (count r b) ∙ sym (ap (λ (ps : List ℕ). getD ps r 0) (reached .is) ∙ getD-placesOf b r l)
 
   runs-few : runCount t ≤ 63
   runs-few = rw length-runsOf at (ready .few)
+
+  left-is : w ≡ rest keyOf (runsOf t) after
+  unfolding after
+  left-is = stretch-back (ready .good) (below-64 ready) (λ _. 0) b w (rest-zero keyOf (runsOf t) ∙ reached .whole) .1
 
   -- the next record of a run, as the code reads it
   record NextOf (e : Item) : Type 0 where
     run : e .run < runCount t
     place : getD places (e .run) 0 < countOf t (e .run)
-    key : itemKey e ≡ nextIn t places (e .run) .key
+    item : e .item ≡ nextIn t places (e .run)
+    most : itemKey e ≤ highest
 
   next-of : (e : Item) → Head (runsOf t) after e → NextOf e
   unfolding nextIn
   next-of e h =
       let s = stands t e (h .stands) in
       let p : e .place ≡ getD places (e .run) 0 = h .next ∙ after-is (e .run) (omega (arith, s .run, runs-few)) in
+      let f : keyOf (e .item) < 256 ^ 8 =
+      runAt-has (λ r. All FitsRecord r) (λ a n. absurd (List·Memᴰ·not-nil n)) (runsOf t) (fits .records) (e .run) (e .item) (at-mem (runsOf t) e (h .stands)) .key in
       record {
         run = s .run;
         place = rw p at (s .place);
-        key = ap (λ x. x .key) (s .item) ∙ ap (λ (n : ℕ). recordAt (runBytes t (e .run)) n .key) p;
+        item = s .item ∙ ap (λ (n : ℕ). recordAt (runBytes t (e .run)) n) p;
+        most = omega arith;
       }
 
   -- and the other way round
@@ -113,74 +120,62 @@ module _ {d : ℕ} {t : List ℕ} (ready : Ready d (runsOf t)) (fits : Fits (run
   head-at r l k =
       record { stands = at-entry t r (getD places r 0) l k; next = sym (after-is r (omega (arith, runs-few))) }
 
-  module _ {h m : ℕ} (runs-are : h ≡ runCount t) (low : LeastKey t h places m) where
-    lowest : (e : Item) → Head (runsOf t) after e → m ≤ keyOf (e .item)
-    lowest e q =
-        let n = next-of e q in
-        let k = low .low (e .run) (omega (arith, n .run)) in
-        omega (arith, n .key, nextKey-has t places (e .run) (n .place))
+  key-most : (r : ℕ) → r < runCount t → getD places r 0 < countOf t r → nextIn t places r .key ≤ highest
+  unfolding nextIn
+  key-most r l k = next-of (entryAt t r (getD places r 0)) (head-at r l k) .most
 
-    same-runs : map (λ e. e .run) (versions keyOf (runsOf t) after m) ≡ drawn t h places m
+  -- the first of what is left has no higher rank than a run's next record
+  module _ {f : Item} {v : List Item} (is : w ≡ f ∷ v) where
+    head : Head (runsOf t) after f
+    head = first-head (ready .good) (below-64 ready) after f v (sym left-is ∙ is)
+
+    first-low : (r : ℕ) → r < runCount t → getD places r 0 < countOf t r → rank keyOf f ≤ nextIn t places r .key * 64 + r
     unfolding nextIn
-    same-runs =
-        same-members (λ r. r) (rises-map (λ r. r) (λ e. e .run) (versions-runs keyOf (runsOf t) after m)) (drawn-rises t h places m) to from
+    first-low r l k =
+        let e = entryAt t r (getD places r 0) in
+        let m : Mem e (f ∷ v) = rw (sym left-is ∙ is) at (head-left (runsOf t) after e (head-at r l k)) in
+        first-least (rw (sym left-is ∙ is) at (rest-rises (ready .good) (below-64 ready) after)) m
+
+  module _ {h : ℕ} (runs-are : h ≡ runCount t) where
+    pub next-first : {r k : ℕ} → NextRun t h places r k → Came t w places r k
+    next-first {r} {k} n = go w refl
       where
-        to : All (λ r. Mem r (drawn t h places m)) (map (λ e. e .run) (versions keyOf (runsOf t) after m))
-        to r i =
-            let e = Memᴰ·of-map (λ e. e .run) (versions keyOf (runsOf t) after m) i in
-            let v = versions-head keyOf (runsOf t) after m (e .0) (e .1) in
-            let n = next-of (e .0) (v .0) in
-            subst (λ (k : ℕ). Mem k (drawn t h places m)) (e .2) (mem-drawn t h places m (omega (arith, n .run)) (n .place) (sym (n .key) ∙ v .1))
+        in-range : r < runCount t
+        in-range = omega (arith, n .run)
 
-        from : All (λ r. Mem r (map (λ e. e .run) (versions keyOf (runsOf t) after m))) (drawn t h places m)
-        from r i =
-            let q = drawn-mem t h places m i in
-            Memᴰ·map (λ e. e .run) {a = entryAt t r (getD places r 0)}
-            (head-versions keyOf (runsOf t) after m (entryAt t r (getD places r 0)) (head-at r (omega arith) (q .1)) (q .2))
+        key-is : nextIn t places r .key ≡ k
+        key-is =
+            cases (ltb k highest) (λ y. n .is (ltb-true k highest y))
+            (λ y. omega (arith, ltb-false k highest y, key-most r in-range (n .has), n .low r (n .run) (n .has)))
 
-    -- where nothing is drawn, nothing is left
-    nothing : length (versions keyOf (runsOf t) after m) ≡ 0 → rest keyOf (runsOf t) after ≡ []
-    unfolding nextKey keyOr nextIn
-    nothing z = rest-end keyOf (runsOf t) after (λ e q. none-here e q (least-is e q))
-      where
-        empty : {A : Type 0} {a : A} (xs : List A) → length xs ≡ 0 → Mem a xs → ⊥
-        empty [] e i = List·Memᴰ·not-nil i
-        empty (x ∷ xs) e i = omega arith
+        go : (u : List Item) → w ≡ u → Came t w places r k
+        go [] e =
+            absurd (List·Memᴰ·not-nil (rw (sym left-is ∙ e) at (head-left (runsOf t) after (entryAt t r (getD places r 0)) (head-at r in-range (n .has)))))
+        go (f ∷ v) e =
+            let o = next-of f (head e) in
+            let key-f : itemKey f ≡ nextIn t places (f .run) .key = ap (λ x. x .key) (o .item) in
+            let low : k ≤ itemKey f = omega (arith, n .low (f .run) (omega (arith, o .run)) (o .place)) in
+            let up : itemKey f * 64 + f .run ≤ nextIn t places r .key * 64 + r = first-low e r in-range (n .has) in
+            let small : f .run < 64 = omega (arith, o .run, runs-few) in
+            let small-r : r < 64 = omega (arith, in-range, runs-few) in
+            let is = key-is in
+            let key : itemKey f ≡ k = omega arith in
+            let run : f .run ≡ r =
+            order (f .run) r (λ m. absurd (omega (arith, n .before (f .run) m (o .place)))) (λ q. q) (λ m. absurd (omega arith)) in
+            record { record-is = f; left = v; parts = e; run = run; key = key; item = o .item ∙ ap (nextIn t places) run }
 
-        -- a key that is attained is a version's
-        high : m < highest → ⊥
-        high l =
-            let r = low .got l in
-            cases (ltb (getD places (r .0) 0) (countOf t (r .0)))
-            (λ y. let p = ltb-true _ _ y in
-            empty (versions keyOf (runsOf t) after m) z
-            (head-versions keyOf (runsOf t) after m (entryAt t (r .0) (getD places (r .0) 0)) (head-at (r .0) (omega (arith, r .1)) p) (sym (nextKey-has t places (r .0) p) ∙ r .2)))
-            (λ n. past (r .0) (r .2) n)
-          where
-            past : (r : ℕ) → nextKey t places r ≡ m → ltb (getD places r 0) (countOf t r) ≡ false → ⊥
-            past r e n = let u : nextKey t places r ≡ highest = rw n in omega arith
+    pub none-left : NoRun t h places → w ≡ []
+    none-left n = left-is ∙ rest-end keyOf (runsOf t) after (λ e q. let o = next-of e q in omega (arith, n (e .run) (omega (arith, o .run)), o .place))
 
-        least-is : (e : Item) → Head (runsOf t) after e → keyOf (e .item) ≡ m
-        least-is e q =
-            let l = lowest e q in
-            let f : keyOf (e .item) < 256 ^ 8 =
-            runAt-has (λ r. All FitsRecord r) (λ a n. absurd (List·Memᴰ·not-nil n)) (runsOf t) (fits .records) (e .run) (e .item) (at-mem (runsOf t) e (q .stands)) .key in
-            cases (ltb m highest) (λ y. absurd (high (ltb-true _ _ y))) (λ n. let u : highest ≤ m = ltb-false _ _ n in omega arith)
-
-        none-here : (e : Item) → Head (runsOf t) after e → keyOf (e .item) ≡ m → ⊥
-        none-here e q k = empty (versions keyOf (runsOf t) after m) z (head-versions keyOf (runsOf t) after m e q k)
-
-    pub group-drawn : Group t b w (drawn t h places m) m
-    unfolding after
-    group-drawn =
-        let left-is : w ≡ rest keyOf (runsOf t) after = cut-rest (ready .good) (below-64 ready) (stand .cut) in
-        record {
-          own = versions keyOf (runsOf t) after m;
-          left = rest keyOf (runsOf t) (passed after (versions keyOf (runsOf t) after m));
-          runs = same-runs;
-          parts = left-is ∙ step (ready .good) (below-64 ready) lowest;
-          key = versions-key keyOf (runsOf t) after m;
-          above = step-above (ready .good) (below-64 ready) lowest;
-          few = rw length-runsOf at (versions-length keyOf (runsOf t) after m);
-          end = λ z. left-is ∙ nothing z;
-        }
+    pub least-first : {m : ℕ} → LeastKey t h places m → (f : Item) (v : List Item) → w ≡ f ∷ v → itemKey f ≡ m
+    least-first {m} low f v e =
+        let o = next-of f (head e) in
+        let key-f : itemKey f ≡ nextIn t places (f .run) .key = ap (λ x. x .key) (o .item) in
+        let has = nextKey-has t places (f .run) (o .place) in
+        let l : m ≤ itemKey f = omega (arith, low .low (f .run) (omega (arith, o .run))) in
+        cases (ltb m highest)
+        (λ y. let g = low .got (ltb-true _ _ y) in
+        let p : getD places (g .0) 0 < countOf t (g .0) = nextKey-low t places (g .0) (omega (arith, g .2, ltb-true m highest y)) in
+        let up = first-low e (g .0) (omega (arith, g .1)) p in
+        omega (arith, nextKey-has t places (g .0) p, g .2, g .1, runs-few, runs-are))
+        (λ y. omega (arith, ltb-false m highest y, o .most))

@@ -16,7 +16,8 @@ use Rattle.number.specs.Big.Laws.{length-bytesOf}
 use Rattle.number.specs.Big.Writes.{put-sets, put-put}
 use Rattle.theory.specs.Pack.{joined}
 use Rattle.theory.specs.Listed.{listed}
-use Rattle.build.specs.Build.Code.{offsetsFrom, LeastKey, Fills, Segmented}
+use Rattle.heads.specs.Heads.Leads.{LeastKey}
+use Rattle.build.specs.Build.Code.{offsetsFrom, otherKey, Fills, Segmented}
 
 pub put-nil : (s : List ℕ) (p : ℕ) → put s p [] ≡ s
 unfolding put
@@ -66,20 +67,20 @@ holders-next {i} {to} s l k =
 -- a segment as the code writes it, part by part
 pub segmented : {t places seg places′ s₁ s₂ s₃ s₄ : List ℕ} {h d m from to e : ℕ} → LeastKey t h places m
     → s₁ ≡ put seg 0 (bytesOf 8 m) → s₂ ≡ put s₁ 8 (offsetsFrom places h 0) → from ≡ 8 + 2 * h → to ≡ 8 + 2 * h + d
-    → Fills t h to places s₂ from places′ s₃ e → from ≤ e → e ≤ to → s₄ ≡ put s₃ e (replicate (to - e) 63)
+    → Fills t h places s₂ from (otherKey m) to places′ s₃ e → from ≤ e → e ≤ to → s₄ ≡ put s₃ e (replicate (to - e) 63)
     → Segmented t h d places seg places′ s₄ (e - from)
 segmented {t} {places} {seg} {places′} {s₁} {s₂} {s₃} {s₄} {h} {d} {m} {from} {to} {e} low p q a b f l k w =
     let end : e ≡ 8 + 2 * h + (e - from) = omega arith in
     let left : to - e ≡ d - (e - from) = omega arith in
     let front : s₂ ≡ put (put seg 0 (bytesOf 8 m)) 8 (offsetsFrom places h 0) = q ∙ ap (λ (s : List ℕ). put s 8 (offsetsFrom places h 0)) p in
-    let f₁ = subst (λ (n : ℕ). Fills t h n places s₂ from places′ s₃ e) b f in
-    let f₂ = subst (λ (s : List ℕ). Fills t h (8 + 2 * h + d) places s from places′ s₃ e) front f₁ in
-    let f₃ = subst (λ (n : ℕ). Fills t h (8 + 2 * h + d) places (put (put seg 0 (bytesOf 8 m)) 8 (offsetsFrom places h 0)) n places′ s₃ e) a f₂ in
+    let f₁ = subst (λ (n : ℕ). Fills t h places s₂ from (otherKey m) n places′ s₃ e) b f in
+    let f₂ = subst (λ (s : List ℕ). Fills t h places s from (otherKey m) (8 + 2 * h + d) places′ s₃ e) front f₁ in
+    let f₃ = subst (λ (n : ℕ). Fills t h places (put (put seg 0 (bytesOf 8 m)) 8 (offsetsFrom places h 0)) n (otherKey m) (8 + 2 * h + d) places′ s₃ e) a f₂ in
     record {
       anchor = m;
       selectors = s₃;
       least = low;
-      filled = subst (λ (n : ℕ). Fills t h (8 + 2 * h + d) places (put (put seg 0 (bytesOf 8 m)) 8 (offsetsFrom places h 0)) (8 + 2 * h) places′ s₃ n) end f₃;
+      filled = subst (λ (n : ℕ). Fills t h places (put (put seg 0 (bytesOf 8 m)) 8 (offsetsFrom places h 0)) (8 + 2 * h) (otherKey m) (8 + 2 * h + d) places′ s₃ n) end f₃;
       short = omega arith;
       whole = w ∙ ap₂ (λ (n k : ℕ). put s₃ n (replicate k 63)) end left;
     }

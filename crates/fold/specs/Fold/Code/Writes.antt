@@ -15,16 +15,25 @@ use lib.ListN.{length, getD, take, drop, set, length-set, length-append, length-
 use lib.Seq.{drop-cons, length-take-le}
 use Rattle.number.specs.Big.{be, bytesOf, put, Bytes}
 use Rattle.number.specs.Big.Laws.{be-add, be-bound, bytesOf-add, length-bytesOf}
-use Rattle.number.specs.Big.Writes.{put-put, length-put}
+use Rattle.number.specs.Big.Writes.{put-put, put-sets, length-put}
 use Rattle.theory.specs.Lists.{here}
 use Rattle.theory.specs.Rising.{Mem, All}
 use Rattle.tray.specs.Run.{recordFrom}
 use Rattle.tray.specs.Meaning.{recordBytes, recordsBytes}
 use Rattle.tray.specs.Meaning.Read.{length-recordBytes}
-use Rattle.build.specs.Build.Code.Writes.{put-nil, put-cons}
-use Rattle.build.specs.Build.Code.Versions.{group-next}
+use Rattle.folding.specs.Folding.Draws.{group-next}
 use Rattle.fold.specs.Fold.Code.{between}
 use Rattle.fold.specs.Fold.Code.Parts.{length-between}
+
+-- nothing written, and one byte more
+put-nil : (s : List ℕ) (p : ℕ) → put s p [] ≡ s
+unfolding put
+put-nil s p = rw add-zero (take-append-drop p s)
+
+put-cons : (s : List ℕ) (p v : ℕ) (ys : List ℕ) → p < length s → put (set s p v) (suc p) ys ≡ put s p (v ∷ ys)
+put-cons s p v ys l =
+    let one : set s p v ≡ put s p (v ∷ []) = put-sets s p (v ∷ []) (omega arith) in
+    rw (one, ← add-one p) (put-put s p (v ∷ []) ys (omega arith))
 
 -- the bytes from place i of a part on have still to be copied
 pub record Copying (part : List ℕ) (at : ℕ) (out₀ out : List ℕ) (i : ℕ) : Type 0 where
