@@ -1,2 +1,2 @@
--- What a fold writes, byte for byte, its answer for every input, and that nothing read changes.
-pub mod Fold
+-- What the code of fold needs of the definitions in `folded`.
+pub mod Code

@@ -3,6 +3,7 @@ pub mod write;
 
 use crate::write::copy;
 use crate::write::write_tray;
+use folded::FoldAnswer;
 use folding::merge_runs;
 use number::wide_size;
 use refusal::Refusal;
@@ -16,14 +17,8 @@ ghost use Prim.Native.Nat.{_≤_};
 ghost use lib.ListN.{length};
 ghost use Rattle.tray.specs.Meaning.{runsOf};
 ghost use Rattle.folding.specs.Folding.{Folding};
-ghost use Rattle.fold.specs.Fold.{foldSize, foldedRun, foldAnswer, leaves};
-ghost use Rattle.fold.specs.Fold.Code.{soundAnswer};
-
-// How many bytes were written, or why none were.
-pub enum FoldAnswer {
-    Written(u64),
-    Refused(Refusal),
-}
+ghost use Rattle.folded.specs.Fold.{foldSize, foldedRun, foldAnswer, leaves};
+ghost use Rattle.fold.specs.Code.{soundAnswer};
 
 // How many bytes the tray has with its runs a to b made one of n records.
 fn folded_size(t: &[u8], f: TrayFrame, a: RunNo, b: RunNo, n: usize) -> usize

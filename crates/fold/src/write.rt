@@ -15,8 +15,8 @@ ghost use Rattle.tray.specs.Frame.{runCount};
 ghost use Rattle.tray.specs.Run.{recordFrom};
 ghost use Rattle.tray.specs.Meaning.{runsOf, recordBytes, recordsBytes};
 ghost use Rattle.folding.specs.Folding.{Noted, Folding};
-ghost use Rattle.fold.specs.Fold.{foldedRun, foldBytes, foldSize};
-ghost use Rattle.fold.specs.Fold.Code.{headBytes, bodyBytes};
+ghost use Rattle.folded.specs.Fold.{foldedRun, foldBytes, foldSize};
+ghost use Rattle.fold.specs.Code.{headBytes, bodyBytes};
 
 // Copies a part to a place of the output.
 pub fn copy(part: &[u8], out: &mut [u8], at: usize)

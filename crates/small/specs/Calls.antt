@@ -28,9 +28,9 @@ use Rattle.index.specs.Check.{afterScan, judgeIndex, framedIndex, afterTray, ch
 use Rattle.build.specs.declared.BuildAnswer.{BuildAnswer}
 use Rattle.build.specs.declared.BuildAnswer.the-variants.{Written, Refused as BuildRefused}
 use Rattle.build.specs.Build.{cuts, anchorOf, offsetsBytes, segmentBytes, segmentsBytes, indexBytes, indexSize, sizeFits, afterCheck, build, leaves}
-use Rattle.fold.specs.declared.FoldAnswer.{FoldAnswer}
-use Rattle.fold.specs.declared.FoldAnswer.the-variants.{Written as FoldWritten, Refused as FoldRefused}
-use Rattle.fold.specs.Fold.{foldedRun, foldedRuns, foldBytes, foldSize, boundsHold, afterCheck as afterFold, foldAnswer, leaves as foldLeaves}
+use Rattle.folded.specs.declared.FoldAnswer.{FoldAnswer}
+use Rattle.folded.specs.declared.FoldAnswer.the-variants.{Written as FoldWritten, Refused as FoldRefused}
+use Rattle.folded.specs.Fold.{foldedRun, foldedRuns, foldBytes, foldSize, boundsHold, afterCheck as afterFold, foldAnswer, leaves as foldLeaves}
 use Rattle.walk.specs.declared.calls.Seeks.{Seeks}
 use Rattle.walk.specs.declared.calls.SeekAnswer.{SeekAnswer}
 use Rattle.walk.specs.declared.calls.SeekAnswer.the-variants.{Found as SeekFound, End as SeekEnd, Refused as SeekRefused}

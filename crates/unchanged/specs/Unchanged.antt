@@ -27,8 +27,8 @@ use Rattle.walk.specs.Answers.{seekAnswer, gotTold, getAnswer}
 use Rattle.sheet.specs.declared.calls.SheetAnswer.{SheetAnswer}
 use Rattle.sheet.specs.declared.calls.SheetAnswer.the-variants.{Listed, Refused}
 use Rattle.sheet.specs.Answers.{sheetAnswer, sheetLeaves}
-use Rattle.fold.specs.Fold.{Calls}
-use Rattle.fold.specs.Fold.Chains.{calls-visible}
+use Rattle.folded.specs.Fold.{Calls}
+use Rattle.folded.specs.Fold.Chains.{calls-visible}
 use Rattle.unchanged.specs.Read.{pointAt, firstPoint, onward, onward-are, get-answers, seek-answers, prefixed, sheetOf, sheet-answers, sheet-records}
 use Rattle.unchanged.specs.Paged.{PageCalls, pages-from}
 

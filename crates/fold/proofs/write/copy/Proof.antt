@@ -1,6 +1,6 @@
 -- `fold::write::copy` meets its contract. Invariant: the bytes from place i on, written from there, complete the copy. Measure: the bytes left.
 -- Assumes nothing.
-use Rattle.fold.specs.Fold.Code.Writes.{Copying, copying-none, copying-more, copying-end}
+use Rattle.fold.specs.Code.Writes.{Copying, copying-none, copying-more, copying-end}
 use lib.ListN.{length}
 use Prim.Native.Nat.{_-_}
 use native.Mathlib.Omega.{arith}

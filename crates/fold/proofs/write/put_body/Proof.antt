@@ -1,6 +1,6 @@
 -- `fold::write::put_body` meets its contract: two stretches of the tray and the kept records between them. Assumes nothing.
-use Rattle.fold.specs.Fold.Code.Trays.{body-put}
-use Rattle.fold.specs.Fold.Code.Writes.{kept-number}
+use Rattle.fold.specs.Code.Trays.{body-put}
+use Rattle.fold.specs.Code.Writes.{kept-number}
 use mathlib.Core.Path.{refl}
 use native.Mathlib.Omega.{arith}
 use borrow.Author.Needs.{needs}

@@ -1,8 +1,8 @@
 -- `fold::write::put_head` meets its contract: four bytes, two stretches of the tray and a number between them, one right behind the other.
 -- Assumes nothing.
 use Prim.Native.Nat.{_+_, _*_}
-use Rattle.fold.specs.Fold.Code.Trays.{head-put}
-use Rattle.fold.specs.Fold.Code.Writes.{between-fits}
+use Rattle.fold.specs.Code.Trays.{head-put}
+use Rattle.fold.specs.Code.Writes.{between-fits}
 use lib.ListN.{length-set}
 use mathlib.Core.Path.{_∙_}
 use native.Mathlib.Omega.{arith}

@@ -1,5 +1,5 @@
 -- `fold::write::put_record` meets its contract: three numbers and a byte, one right behind the other. Assumes nothing.
-use Rattle.fold.specs.Fold.Code.Writes.{record-put}
+use Rattle.fold.specs.Code.Writes.{record-put}
 use Rattle.number.proofs.Known.{bytes-known}
 use lib.ListN.{length-set}
 use mathlib.Core.Path.{_∙_, refl}

@@ -1,6 +1,6 @@
 -- `fold::write::put_records` meets its contract. Invariant: the records from number j on, written from there, complete the copy. Measure: the
 -- records left. Assumes nothing.
-use Rattle.fold.specs.Fold.Code.Writes.{Putting, putting-none, putting-more, putting-end, kept-inside}
+use Rattle.fold.specs.Code.Writes.{Putting, putting-none, putting-more, putting-end, kept-inside}
 use Prim.Native.Nat.{_-_}
 use native.Mathlib.Omega.{arith}
 use Rattle.fold.proofs.write.put_records.Statement.{statement}

@@ -1,5 +1,5 @@
 -- `fold::write::write_tray` meets its contract: the head, and the body right behind it. Assumes nothing.
-use Rattle.fold.specs.Fold.Code.Trays.{tray-put, laid-parts}
+use Rattle.fold.specs.Code.Trays.{tray-put, laid-parts}
 use Rattle.number.proofs.Known.{bytes-known}
 use mathlib.Core.Path.{sym, ap, _∙_}
 use lib.ListN.{length}

@@ -3,7 +3,6 @@
 pub mod Answers
 mod Cases
 pub mod Chains
-pub mod Code
 pub mod Laws
 pub mod Leaves
 pub mod Nothing
@@ -23,8 +22,8 @@ use Rattle.tray.specs.declared.check.TrayAnswer.the-variants.{Records, Refused 
 use Rattle.tray.specs.Frame.{runCount, framed}
 use Rattle.tray.specs.Check.{checkTray}
 use Rattle.tray.specs.Meaning.{runsOf, trayBytes, total}
-use Rattle.fold.specs.declared.FoldAnswer.{FoldAnswer}
-use Rattle.fold.specs.declared.FoldAnswer.the-variants.{Written, Refused}
+use Rattle.folded.specs.declared.FoldAnswer.{FoldAnswer}
+use Rattle.folded.specs.declared.FoldAnswer.the-variants.{Written, Refused}
 
 -- a record's key
 abbrev pub keyOf : Record → ℕ

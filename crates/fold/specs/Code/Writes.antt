@@ -22,8 +22,8 @@ use Rattle.tray.specs.Run.{recordFrom}
 use Rattle.tray.specs.Meaning.{recordBytes, recordsBytes}
 use Rattle.tray.specs.Meaning.Read.{length-recordBytes}
 use Rattle.folding.specs.Folding.Draws.{group-next}
-use Rattle.fold.specs.Fold.Code.{between}
-use Rattle.fold.specs.Fold.Code.Parts.{length-between}
+use Rattle.fold.specs.Code.{between}
+use Rattle.fold.specs.Code.Parts.{length-between}
 
 -- nothing written, and one byte more
 put-nil : (s : List ℕ) (p : ℕ) → put s p [] ≡ s

@@ -33,11 +33,11 @@ use Rattle.tray.specs.Check.{Sound}
 use Rattle.tray.specs.Meaning.{runsOf}
 use Rattle.tray.specs.Meaning.Laws.{length-runsOf, runs-good}
 use Rattle.tray.specs.Meaning.Back.{fits-runs, runsOf-one}
-use Rattle.fold.specs.declared.FoldAnswer.the-variants.{Written, Refused}
-use Rattle.fold.specs.Fold.{keyOf, foldedRun, foldedRuns, foldBytes, foldSize, foldAnswer, leaves, Calls, no-call, call}
-use Rattle.fold.specs.Fold.Laws.{InBounds, Foldable, keyRule, foldedRun-whole, fold-sound, fold-bytes, fold-means}
-use Rattle.fold.specs.Fold.Answers.{fold-written, fold-refuses-12}
-use Rattle.fold.specs.Fold.Leaves.{leaves-written}
+use Rattle.folded.specs.declared.FoldAnswer.the-variants.{Written, Refused}
+use Rattle.folded.specs.Fold.{keyOf, foldedRun, foldedRuns, foldBytes, foldSize, foldAnswer, leaves, Calls, no-call, call}
+use Rattle.folded.specs.Fold.Laws.{InBounds, Foldable, keyRule, foldedRun-whole, fold-sound, fold-bytes, fold-means}
+use Rattle.folded.specs.Fold.Answers.{fold-written, fold-refuses-12}
+use Rattle.folded.specs.Fold.Leaves.{leaves-written}
 
 -- the merge of all of a tray's runs
 abbrev pub mergeOf : List ℕ → List Record

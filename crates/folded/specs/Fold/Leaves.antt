@@ -13,10 +13,10 @@ use Rattle.refusal.specs.declared.Refusal.{Refusal}
 use Rattle.number.specs.Big.{put}
 use Rattle.number.specs.Big.Writes.{length-put, take-put, drop-put}
 use Rattle.tray.specs.Meaning.{runsOf}
-use Rattle.fold.specs.declared.FoldAnswer.the-variants.{Written, Refused}
-use Rattle.fold.specs.Fold.{foldBytes, foldAnswer, leaves}
-use Rattle.fold.specs.Fold.Laws.{length-foldBytes}
-use Rattle.fold.specs.Fold.Answers.{fold-written}
+use Rattle.folded.specs.declared.FoldAnswer.the-variants.{Written, Refused}
+use Rattle.folded.specs.Fold.{foldBytes, foldAnswer, leaves}
+use Rattle.folded.specs.Fold.Laws.{length-foldBytes}
+use Rattle.folded.specs.Fold.Answers.{fold-written}
 
 -- an output s after ys was written at its front, n bytes of it
 pub record Front (s ys out : List ℕ) (n : ℕ) : Type 0 where

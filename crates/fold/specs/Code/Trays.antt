@@ -16,12 +16,12 @@ use Rattle.tray.specs.Frame.{runCount, startOf, Framed}
 use Rattle.tray.specs.Frame.Laws.{startOf-zero, startOf-le, startOf-within}
 use Rattle.tray.specs.Meaning.{runsOf, recordsBytes}
 use Rattle.tray.specs.Meaning.Read.{length-recordsBytes}
-use Rattle.fold.specs.Fold.{foldedRun, foldBytes, foldSize}
-use Rattle.fold.specs.Fold.Code.{between, headBytes, bodyBytes}
+use Rattle.folded.specs.Fold.{foldedRun, foldBytes, foldSize}
+use Rattle.fold.specs.Code.{between, headBytes, bodyBytes}
 use Rattle.folding.specs.Folding.{Folding}
 use Rattle.folding.specs.Folding.Keeping.{start-low}
-use Rattle.fold.specs.Fold.Code.Writes.{put-next}
-use Rattle.fold.specs.Fold.Code.Parts.{fold-parts, size-parts, length-head, length-between}
+use Rattle.fold.specs.Code.Writes.{put-next}
+use Rattle.fold.specs.Code.Parts.{fold-parts, size-parts, length-head, length-between}
 
 -- the head
 pub head-put : (t out : List ℕ) {out₂ out₃ out₄ : List ℕ} (h a b n : ℕ) {i j k : ℕ}

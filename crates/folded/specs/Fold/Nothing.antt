@@ -33,9 +33,9 @@ use Rattle.tray.specs.Meaning.{runOf, runsOf, trayBytes, Fits}
 use Rattle.tray.specs.Meaning.Laws.{runIn, length-runsOf, runAt-runsOf, runs-good}
 use Rattle.tray.specs.Meaning.Read.{read-back}
 use Rattle.tray.specs.Meaning.Back.{sound-back, bytes-back, fits-runs}
-use Rattle.fold.specs.Fold.{keyOf, foldedRun, foldedRuns, foldBytes}
-use Rattle.fold.specs.Fold.Laws.{Foldable, keyRule}
-use Rattle.fold.specs.Fold.Chains.{mergeOf}
+use Rattle.folded.specs.Fold.{keyOf, foldedRun, foldedRuns, foldBytes}
+use Rattle.folded.specs.Fold.Laws.{Foldable, keyRule}
+use Rattle.folded.specs.Fold.Chains.{mergeOf}
 
 -- the runs without run r
 unfoldable pub without : {A : Type 0} → ℕ → List A → List A

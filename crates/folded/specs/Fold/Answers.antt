@@ -22,10 +22,10 @@ use Rattle.tray.specs.Check.{checkTray, Sound, Says, refused-1, refused-2, refu
 use Rattle.tray.specs.Check.Laws.{says}
 use Rattle.tray.specs.Check.Theorems.{First, answers-records, refuses-2, refuses-3}
 use Rattle.tray.specs.Meaning.{runsOf}
-use Rattle.fold.specs.declared.FoldAnswer.{FoldAnswer}
-use Rattle.fold.specs.declared.FoldAnswer.the-variants.{Written, Refused}
-use Rattle.fold.specs.Fold.{foldedRun, foldSize, boundsHold, afterCheck, foldAnswer}
-use Rattle.fold.specs.Fold.Laws.{InBounds}
+use Rattle.folded.specs.declared.FoldAnswer.{FoldAnswer}
+use Rattle.folded.specs.declared.FoldAnswer.the-variants.{Written, Refused}
+use Rattle.folded.specs.Fold.{foldedRun, foldSize, boundsHold, afterCheck, foldAnswer}
+use Rattle.folded.specs.Fold.Laws.{InBounds}
 
 -- record n is the first wrong one: its kind is right, and its key is not above the one before it in its run;
 abbrev pub KeyFirst : List ℕ → ℕ → Type 0

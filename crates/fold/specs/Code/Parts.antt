@@ -25,9 +25,9 @@ use Rattle.tray.specs.Meaning.{runsOf, recordsBytes, countsBytes, runsBytes, tr
 use Rattle.tray.specs.Meaning.Laws.{runIn, length-runOf, length-runsOf}
 use Rattle.tray.specs.Meaning.Read.{length-recordsBytes}
 use Rattle.tray.specs.Meaning.Write.{records-back, bytes-run}
-use Rattle.fold.specs.Fold.{keyOf, foldedRun, foldedRuns, foldBytes, foldSize}
-use Rattle.fold.specs.Fold.Laws.{length-foldBytes}
-use Rattle.fold.specs.Fold.Code.{between, headBytes, bodyBytes}
+use Rattle.folded.specs.Fold.{keyOf, foldedRun, foldedRuns, foldBytes, foldSize}
+use Rattle.folded.specs.Fold.Laws.{length-foldBytes}
+use Rattle.fold.specs.Code.{between, headBytes, bodyBytes}
 use Rattle.folding.specs.Folding.Start.{listed-part, listed-drop}
 
 -- what stands between two places

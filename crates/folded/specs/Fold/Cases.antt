@@ -13,9 +13,9 @@ use Rattle.tray.specs.Frame.{runCount, countOf, recordsBefore, startOf, runByte
 use Rattle.tray.specs.Run.{recordFrom, kindWrong, keyWrong, judgeFrom}
 use Rattle.tray.specs.Check.{afterRun, checkRuns, checkTray}
 use Rattle.tray.specs.Meaning.{runOf, runsOf, recordBytes, recordsBytes, countsBytes, runsBytes, trayBytes, total}
-use Rattle.fold.specs.declared.FoldAnswer.{FoldAnswer}
-use Rattle.fold.specs.declared.FoldAnswer.the-variants.{Written, Refused}
-use Rattle.fold.specs.Fold.{foldedRun, foldedRuns, foldBytes, foldSize, boundsHold, afterCheck, foldAnswer, leaves}
+use Rattle.folded.specs.declared.FoldAnswer.{FoldAnswer}
+use Rattle.folded.specs.declared.FoldAnswer.the-variants.{Written, Refused}
+use Rattle.folded.specs.Fold.{foldedRun, foldedRuns, foldBytes, foldSize, boundsHold, afterCheck, foldAnswer, leaves}
 
 -- the bytes of a folded tray with all that they are computed by: to unfold it is to unfold them
 folded : ℕ → ℕ → List ℕ → List ℕ

@@ -14,9 +14,9 @@ use Rattle.refusal.specs.declared.Refusal.the-variants.{Room, RunLength}
 use Rattle.theory.specs.Records.{Record}
 use Rattle.tray.specs.Frame.{runCount}
 use Rattle.tray.specs.Meaning.{recordsBytes}
-use Rattle.fold.specs.declared.FoldAnswer.{FoldAnswer}
-use Rattle.fold.specs.declared.FoldAnswer.the-variants.{Written, Refused}
-use Rattle.fold.specs.Fold.{foldedRun, foldSize}
+use Rattle.folded.specs.declared.FoldAnswer.{FoldAnswer}
+use Rattle.folded.specs.declared.FoldAnswer.the-variants.{Written, Refused}
+use Rattle.folded.specs.Fold.{foldedRun, foldSize}
 
 -- the part of a list from place x up to place y
 abbrev pub between : ℕ → ℕ → List ℕ → List ℕ

@@ -33,7 +33,7 @@ use Rattle.tray.specs.Meaning.Laws.{length-runsOf, runs-good}
 use Rattle.tray.specs.Meaning.Write.{write-back}
 use Rattle.tray.specs.Meaning.Read.{length-trayBytes, read-back}
 use Rattle.tray.specs.Meaning.Back.{sound-back, bytes-back, fits-runs}
-use Rattle.fold.specs.Fold.{keyOf, foldedRun, foldedRuns, foldBytes, foldSize}
+use Rattle.folded.specs.Fold.{keyOf, foldedRun, foldedRuns, foldBytes, foldSize}
 
 -- edition 0's rule, over any property of records
 abbrev pub keyRule : (Ok : Record → Type 0) → Rule Ok keyOf (sameKey keyOf)

@@ -1,0 +1,2 @@
+-- What a fold writes, byte for byte, its answer for every input, and that nothing read changes.
+pub mod Fold
