@@ -1,2 +1,2 @@
--- What the builder writes, byte for byte, and its answer for every input.
-pub mod Build
+-- What the code of build needs of the definitions in `built`.
+pub mod Code

@@ -5,6 +5,7 @@ pub mod segments;
 
 use crate::segments::count_segments;
 use crate::segments::write_segments;
+use built::BuildAnswer;
 use index::SegmentNo;
 use index::frame::segment_at;
 use number::put4;
@@ -20,15 +21,9 @@ ghost use Prim.Native.Nat.{_≤_};
 ghost use lib.ListN.{length};
 ghost use Rattle.number.specs.Big.{bytesOf, put};
 ghost use Rattle.tray.specs.Meaning.{runsOf};
-ghost use Rattle.build.specs.Build.{indexBytes, indexSize, build as buildOf, leaves};
-ghost use Rattle.build.specs.Build.Code.{Sounded};
-ghost use Rattle.build.specs.Build.Code.Answers.{roomAnswer};
-
-// How many bytes were written, or why none were.
-pub enum BuildAnswer {
-    Written(u64),
-    Refused(Refusal),
-}
+ghost use Rattle.built.specs.Build.{indexBytes, indexSize, build as buildOf, leaves};
+ghost use Rattle.build.specs.Code.{Sounded};
+ghost use Rattle.build.specs.Code.Answers.{roomAnswer};
 
 // The header: runs, segment size, two zeros, and the segment count.
 fn put_header(out: &mut [u8], h: u8, d: u8, s: u32)

@@ -12,7 +12,7 @@ ghost use Rattle.number.specs.Big.{put};
 ghost use Rattle.tray.specs.Frame.{runCount};
 ghost use Rattle.index.specs.Scan.Code.{Reading};
 ghost use Rattle.heads.specs.Heads.Leads.{Heading};
-ghost use Rattle.build.specs.Build.Code.{offsetsFrom, Segmented};
+ghost use Rattle.build.specs.Code.{offsetsFrom, Segmented};
 
 // The places as offsets, from byte 8 on.
 fn put_offsets(seg: &mut [u8], places: &[u16], h: u8)

@@ -25,9 +25,9 @@ use Rattle.index.specs.Layout.{sizeOf, segmentCount, headSize, segmentAt, Segme
 use Rattle.index.specs.Rules.{selectorOf}
 use Rattle.index.specs.Scan.{marked, raise, begins, joins, offsetsHold, onlyPlaceholders, nextIn, hasNext, headsAbove, usedUp, names, closed, following, selectorsScan, segmentScan, scanFrom}
 use Rattle.index.specs.Check.{afterScan, judgeIndex, framedIndex, afterTray, checkIndex}
-use Rattle.build.specs.declared.BuildAnswer.{BuildAnswer}
-use Rattle.build.specs.declared.BuildAnswer.the-variants.{Written, Refused as BuildRefused}
-use Rattle.build.specs.Build.{cuts, anchorOf, offsetsBytes, segmentBytes, segmentsBytes, indexBytes, indexSize, sizeFits, afterCheck, build, leaves}
+use Rattle.built.specs.declared.BuildAnswer.{BuildAnswer}
+use Rattle.built.specs.declared.BuildAnswer.the-variants.{Written, Refused as BuildRefused}
+use Rattle.built.specs.Build.{cuts, anchorOf, offsetsBytes, segmentBytes, segmentsBytes, indexBytes, indexSize, sizeFits, afterCheck, build, leaves}
 use Rattle.folded.specs.declared.FoldAnswer.{FoldAnswer}
 use Rattle.folded.specs.declared.FoldAnswer.the-variants.{Written as FoldWritten, Refused as FoldRefused}
 use Rattle.folded.specs.Fold.{foldedRun, foldedRuns, foldBytes, foldSize, boundsHold, afterCheck as afterFold, foldAnswer, leaves as foldLeaves}

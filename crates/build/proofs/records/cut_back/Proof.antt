@@ -1,7 +1,7 @@
 -- `build::records::cut_back` meets its contract. Invariant: the selectors from i on have been given back. Measure: i. Assumes nothing.
 use Prim.Native.Nat.{_-_}
 use mathlib.Core.Path.{refl}
-use Rattle.build.specs.Build.Code.Records.{Backing, backing-none, backing-on, backing-stop, backing-end}
+use Rattle.build.specs.Code.Records.{Backing, backing-none, backing-on, backing-stop, backing-end}
 use native.Mathlib.Omega.{arith}
 use borrow.Author.Needs.{needs}
 use Rattle.build.proofs.records.cut_back.Statement.{statement}

@@ -1,5 +1,5 @@
 -- `build::records::old_mark` meets its contract: the test that was taken is the one that the mark says. Assumes nothing.
-use Rattle.build.specs.Build.Code.Records.{old-same, old-other}
+use Rattle.build.specs.Code.Records.{old-same, old-other}
 use Rattle.build.proofs.records.old_mark.Statement.{statement}
 use Rattle.build.proofs.records.old_mark.Tie as tie
 use Rattle.build.proofs.records.old_mark.Reads as reads

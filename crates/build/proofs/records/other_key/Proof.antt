@@ -1,5 +1,5 @@
 -- `build::records::other_key` meets its contract. Assumes nothing.
-use Rattle.build.specs.Build.Code.Records.{other-none, other-some}
+use Rattle.build.specs.Code.Records.{other-none, other-some}
 use Rattle.build.proofs.records.other_key.Statement.{statement}
 use Rattle.build.proofs.records.other_key.Tie as tie
 use Rattle.build.proofs.records.other_key.Reads as reads

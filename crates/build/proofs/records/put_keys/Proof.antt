@@ -1,6 +1,6 @@
 -- `build::records::put_keys` meets its contract: what comes next has the last key, has another one, or is nothing. Assumes nothing.
-use Rattle.build.specs.Build.Code.Records.{fills-cut, fills-other, fills-over}
-use Rattle.build.specs.Build.Code.Taken.{steps-select}
+use Rattle.build.specs.Code.Records.{fills-cut, fills-other, fills-over}
+use Rattle.build.specs.Code.Taken.{steps-select}
 use Rattle.heads.specs.Heads.Leads.Next.{next-run, next-none}
 use native.Mathlib.Omega.{arith}
 use borrow.Author.Needs.{needs}

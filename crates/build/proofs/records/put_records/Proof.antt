@@ -1,7 +1,7 @@
 -- `build::records::put_records` meets its contract. Invariant: records have been written as far as a place. Measure: the room left.
 -- Assumes nothing.
 use Prim.Native.Nat.{_-_}
-use Rattle.build.specs.Build.Code.Records.{Putting, putting-none, putting-more, putting-end, old-low}
+use Rattle.build.specs.Code.Records.{Putting, putting-none, putting-more, putting-end, old-low}
 use Rattle.heads.specs.Heads.Leads.Next.{next-run, next-none}
 use native.Mathlib.Omega.{arith}
 use borrow.Author.Needs.{needs}

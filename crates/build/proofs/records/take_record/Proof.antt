@@ -1,5 +1,5 @@
 -- `build::records::take_record` meets its contract. `run-cut` says that the stretch handed on is run r. Assumes nothing.
-use Rattle.build.specs.Build.Code.Records.{mark-low, spelled}
+use Rattle.build.specs.Code.Records.{mark-low, spelled}
 use Rattle.heads.specs.Heads.Leads.Laws.{place-low}
 use Rattle.heads.specs.Heads.Laws.{run-cut}
 use native.Mathlib.Omega.{arith}

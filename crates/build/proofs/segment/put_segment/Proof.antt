@@ -1,5 +1,5 @@
 -- `build::segment::put_segment` meets its contract: one write right behind the other. Assumes nothing.
-use Rattle.build.specs.Build.Code.Writes.{segmented}
+use Rattle.build.specs.Code.Writes.{segmented}
 use Rattle.heads.specs.Heads.Leads.Next.{least-key}
 use native.Mathlib.Omega.{arith}
 use borrow.Author.Needs.{needs}

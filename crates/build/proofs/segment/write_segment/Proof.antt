@@ -1,7 +1,7 @@
 -- `build::segment::write_segment` meets its contract. Assumes nothing.
 use mathlib.Core.Path.{refl}
-use Rattle.build.specs.Build.Code.Records.{reading-on}
-use Rattle.build.specs.Build.Code.Loops.{padded-none}
+use Rattle.build.specs.Code.Records.{reading-on}
+use Rattle.build.specs.Code.Loops.{padded-none}
 use native.Mathlib.Omega.{arith}
 use borrow.Author.Needs.{needs}
 use Rattle.build.proofs.segment.write_segment.Statement.{statement}

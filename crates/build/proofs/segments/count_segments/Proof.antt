@@ -5,9 +5,9 @@ use mathlib.Core.Path.{_≡_, refl, sym}
 use lib.ListN.{length}
 use Rattle.number.proofs.Known.{bytes-known}
 use Rattle.index.specs.Scan.Code.{Reading}
-use Rattle.build.specs.Build.Code.Loops.{Merging, merging-none, merging-low, merging-end, merging-less, merging-more, sounded-ready, sounded-fits, sounded-reading}
-use Rattle.build.specs.Build.Bytes.{cuts-few}
-use Rattle.build.specs.Build.Code.Loops.{front-long, front-back}
+use Rattle.build.specs.Code.Loops.{Merging, merging-none, merging-low, merging-end, merging-less, merging-more, sounded-ready, sounded-fits, sounded-reading}
+use Rattle.built.specs.Build.Bytes.{cuts-few}
+use Rattle.build.specs.Code.Loops.{front-long, front-back}
 use native.Mathlib.Omega.{arith}
 use borrow.Author.Needs.{needs}
 use Rattle.build.proofs.segments.count_segments.Statement.{statement}

@@ -2,9 +2,9 @@
 -- Measure: the records left. Assumes nothing.
 use mathlib.Core.Path.{refl, sym}
 use Rattle.number.proofs.Known.{bytes-known}
-use Rattle.build.specs.Build.Bytes.{cuts-few}
+use Rattle.built.specs.Build.Bytes.{cuts-few}
 use Rattle.index.specs.Scan.Code.{Reading}
-use Rattle.build.specs.Build.Code.Loops.{Writing, merging-low, merging-end, merging-less, writing-none, writing-room, writing-end, writing-more, lent-long, lent-back, sounded-ready, sounded-fits, sounded-reading}
+use Rattle.build.specs.Code.Loops.{Writing, merging-low, merging-end, merging-less, writing-none, writing-room, writing-end, writing-more, lent-long, lent-back, sounded-ready, sounded-fits, sounded-reading}
 use native.Mathlib.Omega.{arith}
 use borrow.Author.Needs.{needs}
 use Rattle.build.proofs.segments.write_segments.Statement.{statement}

@@ -28,8 +28,8 @@ use Rattle.tray.specs.Meaning.{total, FitsRecord, Fits}
 use Rattle.theory.specs.Listed.{listed}
 use Rattle.index.specs.Layout.{headSize, segmentAt}
 use Rattle.index.specs.Rules.{Item, keyOf, placeholder, selectorOf}
-use Rattle.build.specs.Build.{cuts, anchorOf, offsetsBytes, segmentBytes, segmentsBytes, indexBytes, indexSize}
-use Rattle.build.specs.Build.Laws.{Ready, cuts-joined, cuts-most, cuts-fit, cuts-stand, count-before, length-view}
+use Rattle.built.specs.Build.{cuts, anchorOf, offsetsBytes, segmentBytes, segmentsBytes, indexBytes, indexSize}
+use Rattle.built.specs.Build.Laws.{Ready, cuts-joined, cuts-most, cuts-fit, cuts-stand, count-before, length-view}
 
 -- n numbers of 2 bytes have 2 n,
 length-numbers : (n i : ℕ) (f : ℕ → ℕ) → length (joined (listed n i (λ r. bytesOf 2 (f r)))) ≡ 2 * n

@@ -35,7 +35,7 @@ use Rattle.theory.specs.Pack.Groups.{joined-mem, groups-joined, groups-full, gr
 use Rattle.theory.specs.Pack.Laws.{Cut, pack-joined, pack-fits, pack-full, pack-cut, pack-bound, pack-most}
 use Rattle.tray.specs.Meaning.{total}
 use Rattle.index.specs.Rules.{Item, keyOf}
-use Rattle.build.specs.Build.{itemKey, cuts}
+use Rattle.built.specs.Build.{itemKey, cuts}
 
 -- a tray that an index with segments of d can be built for
 pub record Ready (d : ℕ) (t : List (List Record)) : Type 0 where

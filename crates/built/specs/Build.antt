@@ -3,7 +3,6 @@
 pub mod Accepted
 pub mod Answers
 pub mod Bytes
-pub mod Code
 pub mod Laws
 pub mod Read
 pub mod Theorems
@@ -26,8 +25,8 @@ use Rattle.tray.specs.Meaning.{runsOf}
 use Rattle.theory.specs.Listed.{listed}
 use Rattle.index.specs.Layout.{segmentAt}
 use Rattle.index.specs.Rules.{Item, keyOf, placeholder, selectorOf}
-use Rattle.build.specs.declared.BuildAnswer.{BuildAnswer}
-use Rattle.build.specs.declared.BuildAnswer.the-variants.{Written, Refused}
+use Rattle.built.specs.declared.BuildAnswer.{BuildAnswer}
+use Rattle.built.specs.declared.BuildAnswer.the-variants.{Written, Refused}
 
 -- the key of a record of the view
 abbrev pub itemKey : Item → ℕ

@@ -13,10 +13,10 @@ use Rattle.tray.specs.Meaning.Laws.{length-runsOf, runs-good}
 use Rattle.tray.specs.Meaning.Back.{total-runsOf, fits-runs}
 use Rattle.index.specs.Layout.{sizeOf, segmentCount, segmentsOf, IndexFramed}
 use Rattle.index.specs.Rules.{keyOf, Accepted}
-use Rattle.build.specs.Build.{cuts, indexBytes}
-use Rattle.build.specs.Build.Laws.{Ready, cuts-bound, cuts-most, length-view}
-use Rattle.build.specs.Build.Read.{builtSegments, read-size, read-count, read-frame, read-segments}
-use Rattle.build.specs.Build.Accepted.{accepted-built}
+use Rattle.built.specs.Build.{cuts, indexBytes}
+use Rattle.built.specs.Build.Laws.{Ready, cuts-bound, cuts-most, length-view}
+use Rattle.built.specs.Build.Read.{builtSegments, read-size, read-count, read-frame, read-segments}
+use Rattle.built.specs.Build.Accepted.{accepted-built}
 
 -- D fits a tray of h runs: from h to 128
 pub record SizeFits (h d : ℕ) : Type 0 where

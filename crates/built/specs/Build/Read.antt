@@ -24,9 +24,9 @@ use Rattle.tray.specs.Meaning.{Fits}
 use Rattle.theory.specs.Listed.{listed}
 use Rattle.index.specs.Layout.{Segment, sizeOf, segmentCount, headSize, segmentAt, segmentFrom, segmentsOf, IndexFramed}
 use Rattle.index.specs.Rules.{Item, placeholder, selectorOf}
-use Rattle.build.specs.Build.{cuts, anchorOf, offsetsBytes, segmentBytes, segmentsBytes, indexBytes, indexSize}
-use Rattle.build.specs.Build.Laws.{Ready, cuts-fit}
-use Rattle.build.specs.Build.Bytes.{filled, length-offsetsBytes, length-filled, length-segmentBytes, length-indexBytes, cuts-anchor, cuts-count, cuts-few}
+use Rattle.built.specs.Build.{cuts, anchorOf, offsetsBytes, segmentBytes, segmentsBytes, indexBytes, indexSize}
+use Rattle.built.specs.Build.Laws.{Ready, cuts-fit}
+use Rattle.built.specs.Build.Bytes.{filled, length-offsetsBytes, length-filled, length-segmentBytes, length-indexBytes, cuts-anchor, cuts-count, cuts-few}
 
 -- a segment as it is written, after the records before it
 unfoldable pub builtSegment : ℕ → List (List Record) → List Item → List Item → Segment

@@ -23,10 +23,10 @@ use Rattle.theory.specs.Pack.{joined}
 use Rattle.theory.specs.Pack.Groups.{joined-mem}
 use Rattle.theory.specs.Listed.{listed}
 use Rattle.index.specs.Rules.{Item, keyOf, placeholder, spelled, PlaceholdersLast, selectorOf, KeysWhole, Right, Follows, here, next, Accepted}
-use Rattle.build.specs.Build.{itemKey, cuts, anchorOf}
-use Rattle.build.specs.Build.Laws.{Ready, cuts-joined, cuts-full, cuts-apart}
-use Rattle.build.specs.Build.Bytes.{filled, Low, selector-real, cuts-low}
-use Rattle.build.specs.Build.Read.{builtSegment, builtSegments}
+use Rattle.built.specs.Build.{itemKey, cuts, anchorOf}
+use Rattle.built.specs.Build.Laws.{Ready, cuts-joined, cuts-full, cuts-apart}
+use Rattle.built.specs.Build.Bytes.{filled, Low, selector-real, cuts-low}
+use Rattle.built.specs.Build.Read.{builtSegment, builtSegments}
 
 -- the member at a place
 getD-listed : (n i : ℕ) (f : ℕ → ℕ) (r : ℕ) → r < n → getD (listed n i f) r 0 ≡ f (i + r)

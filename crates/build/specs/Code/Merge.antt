@@ -34,9 +34,9 @@ use Rattle.index.specs.Scan.Places.{placesOf, getD-placesOf}
 use Rattle.heads.specs.Heads.{highest}
 use Rattle.heads.specs.Heads.Leads.{NextRun, NoRun, LeastKey}
 use Rattle.heads.specs.Heads.Leads.Next.{nextKey-has, nextKey-low}
-use Rattle.build.specs.Build.{itemKey}
-use Rattle.build.specs.Build.Laws.{Ready, below-64}
-use Rattle.build.specs.Build.Bytes.{runAt-has}
+use Rattle.built.specs.Build.{itemKey}
+use Rattle.built.specs.Build.Laws.{Ready, below-64}
+use Rattle.built.specs.Build.Bytes.{runAt-has}
 
 -- the records b have been read, w are left, and the places say so
 pub record Reached (t : List ℕ) (b w : List Item) (places : List ℕ) : Type 0 where

@@ -25,14 +25,14 @@ use Rattle.index.specs.Rules.{Item, keyOf, selectorOf}
 use Rattle.index.specs.Rules.Cuts.{Cut, Above, lastOf, last-snoc, whole-above, cut-low, cut-rises, cut-next}
 use Rattle.index.specs.Scan.Places.{placesOf}
 use Rattle.heads.specs.Heads.Leads.{NextRun, LeastKey}
-use Rattle.build.specs.Build.{itemKey}
-use Rattle.build.specs.Build.Laws.{Ready, below-64, rises-room}
-use Rattle.build.specs.Build.Code.{otherKey, Stopped, After, over, other, stop, back, Fills, ends, cuts}
-use Rattle.build.specs.Build.Code.Merge.{Reached, Stand, Came, next-first, none-left, least-first}
-use Rattle.build.specs.Build.Code.Spelled.{marksOn, lastKey, lastKey-last, spells}
-use Rattle.build.specs.Build.Code.Taken.{Taken, taken-reached, steps-taken}
-use Rattle.build.specs.Build.Code.Given.{Holds, LastGroup, back-is}
-use Rattle.build.specs.Build.Code.Packed.{pack-front, first-long}
+use Rattle.built.specs.Build.{itemKey}
+use Rattle.built.specs.Build.Laws.{Ready, below-64, rises-room}
+use Rattle.build.specs.Code.{otherKey, Stopped, After, over, other, stop, back, Fills, ends, cuts}
+use Rattle.build.specs.Code.Merge.{Reached, Stand, Came, next-first, none-left, least-first}
+use Rattle.build.specs.Code.Spelled.{marksOn, lastKey, lastKey-last, spells}
+use Rattle.build.specs.Code.Taken.{Taken, taken-reached, steps-taken}
+use Rattle.build.specs.Code.Given.{Holds, LastGroup, back-is}
+use Rattle.build.specs.Code.Packed.{pack-front, first-long}
 
 -- after b, the records own are the next segment of w, their selectors are written from a place on, and perhaps more behind them
 pub record Filled (t : List ℕ) (d : ℕ) (b w : List Item) (places′ seg seg′ : List ℕ) (from e : ℕ) : Type 0 where

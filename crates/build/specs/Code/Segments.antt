@@ -20,12 +20,12 @@ use Rattle.theory.specs.Listed.{listed}
 use Rattle.theory.specs.Listed.Laws.{listed-same}
 use Rattle.index.specs.Rules.{Item, selectorOf}
 use Rattle.index.specs.Scan.Places.{placesOf, getD-placesOf}
-use Rattle.build.specs.Build.{itemKey, anchorOf, offsetsBytes, segmentBytes}
-use Rattle.build.specs.Build.Laws.{Ready}
-use Rattle.build.specs.Build.Bytes.{length-offsetsBytes}
-use Rattle.build.specs.Build.Code.{offsetsFrom, Segmented}
-use Rattle.build.specs.Build.Code.Merge.{Stand, least-first}
-use Rattle.build.specs.Build.Code.Filled.{Filled, fill-is}
+use Rattle.built.specs.Build.{itemKey, anchorOf, offsetsBytes, segmentBytes}
+use Rattle.built.specs.Build.Laws.{Ready}
+use Rattle.built.specs.Build.Bytes.{length-offsetsBytes}
+use Rattle.build.specs.Code.{offsetsFrom, Segmented}
+use Rattle.build.specs.Code.Merge.{Stand, least-first}
+use Rattle.build.specs.Code.Filled.{Filled, fill-is}
 
 -- two listed alike, number by number
 listed-ext : {A : Type 0} (n i : ℕ) (f g : ℕ → A) → ((j : ℕ) → i ≤ j → j < i + n → f j ≡ g j) → listed n i f ≡ listed n i g

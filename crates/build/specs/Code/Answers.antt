@@ -33,14 +33,14 @@ use Rattle.tray.specs.Meaning.Laws.{length-runsOf}
 use Rattle.tray.specs.Meaning.Back.{total-runsOf}
 use Rattle.index.specs.Layout.{segmentAt}
 use Rattle.index.specs.Layout.Code.{segmentAt-le}
-use Rattle.build.specs.declared.BuildAnswer.{BuildAnswer}
-use Rattle.build.specs.declared.BuildAnswer.the-variants.{Written, Refused}
-use Rattle.build.specs.Build.{cuts, segmentsBytes, indexBytes, indexSize, sizeFits, afterCheck, build, leaves}
-use Rattle.build.specs.Build.Bytes.{total-short}
-use Rattle.build.specs.Build.Theorems.{built-most}
-use Rattle.build.specs.Build.Code.{Sounded}
-use Rattle.build.specs.Build.Code.Writes.{put-before}
-use Rattle.build.specs.Build.Code.Loops.{sounded-fits}
+use Rattle.built.specs.declared.BuildAnswer.{BuildAnswer}
+use Rattle.built.specs.declared.BuildAnswer.the-variants.{Written, Refused}
+use Rattle.built.specs.Build.{cuts, segmentsBytes, indexBytes, indexSize, sizeFits, afterCheck, build, leaves}
+use Rattle.built.specs.Build.Bytes.{total-short}
+use Rattle.built.specs.Build.Theorems.{built-most}
+use Rattle.build.specs.Code.{Sounded}
+use Rattle.build.specs.Code.Writes.{put-before}
+use Rattle.build.specs.Code.Loops.{sounded-fits}
 
 -- the answer for a sound tray
 unfoldable pub roomAnswer : ℕ → List (List Record) → ℕ → BuildAnswer

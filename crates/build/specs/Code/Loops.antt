@@ -29,15 +29,15 @@ use Rattle.index.specs.Layout.Code.{segmentAt-next, segmentAt-le}
 use Rattle.index.specs.Rules.{Item, keyOf}
 use Rattle.index.specs.Rules.Cuts.{cut-start}
 use Rattle.index.specs.Scan.Places.{placesOf-none}
-use Rattle.build.specs.Build.{itemKey, cuts, segmentBytes, segmentsBytes, indexSize}
-use Rattle.build.specs.Build.Laws.{Ready, length-view}
-use Rattle.build.specs.Build.Bytes.{length-segmentBytes}
-use Rattle.build.specs.Build.Theorems.{sound-ready}
+use Rattle.built.specs.Build.{itemKey, cuts, segmentBytes, segmentsBytes, indexSize}
+use Rattle.built.specs.Build.Laws.{Ready, length-view}
+use Rattle.built.specs.Build.Bytes.{length-segmentBytes}
+use Rattle.built.specs.Build.Theorems.{sound-ready}
 use Rattle.heads.specs.Heads.{highest, Padded}
-use Rattle.build.specs.Build.Code.{Segmented, Sounded}
-use Rattle.build.specs.Build.Code.Writes.{put-nil}
-use Rattle.build.specs.Build.Code.Merge.{Stand}
-use Rattle.build.specs.Build.Code.Segments.{Cutting, segment-is}
+use Rattle.build.specs.Code.{Segmented, Sounded}
+use Rattle.build.specs.Code.Writes.{put-nil}
+use Rattle.build.specs.Code.Merge.{Stand}
+use Rattle.build.specs.Code.Segments.{Cutting, segment-is}
 
 -- g segments have been cut, and so many records are left
 pub record Merging (t : List ℕ) (d : ℕ) (places : List ℕ) (left g : ℕ) : Type 0 where

@@ -15,7 +15,7 @@ use Rattle.theory.specs.Tests.{cases}
 use Rattle.theory.specs.Pack.{joined, grouped, groups, packOn, pack}
 use Rattle.theory.specs.Pack.Groups.{groups-joined}
 use Rattle.index.specs.Rules.{Item}
-use Rattle.build.specs.Build.{itemKey}
+use Rattle.built.specs.Build.{itemKey}
 
 -- no record of one list has the key of one of the other
 abbrev pub NoKey : List Item → List Item → Type 0

@@ -31,11 +31,11 @@ use Rattle.tray.specs.Check.Theorems.{First, answers-records, refuses-2, refuse
 use Rattle.tray.specs.Meaning.{runsOf}
 use Rattle.index.specs.Layout.{segmentsOf, IndexFramed}
 use Rattle.index.specs.Rules.{Accepted}
-use Rattle.build.specs.declared.BuildAnswer.{BuildAnswer}
-use Rattle.build.specs.declared.BuildAnswer.the-variants.{Written, Refused}
-use Rattle.build.specs.Build.{indexBytes, indexSize, sizeFits, afterCheck, build, leaves}
-use Rattle.build.specs.Build.Bytes.{length-indexBytes}
-use Rattle.build.specs.Build.Theorems.{SizeFits, sound-ready, built-frame, built-accepted}
+use Rattle.built.specs.declared.BuildAnswer.{BuildAnswer}
+use Rattle.built.specs.declared.BuildAnswer.the-variants.{Written, Refused}
+use Rattle.built.specs.Build.{indexBytes, indexSize, sizeFits, afterCheck, build, leaves}
+use Rattle.built.specs.Build.Bytes.{length-indexBytes}
+use Rattle.built.specs.Build.Theorems.{SizeFits, sound-ready, built-frame, built-accepted}
 
 -- a D that the test admits fits,
 pub size-fits : (h d : ℕ) → sizeFits h d ≡ true → SizeFits h d

@@ -14,8 +14,8 @@ use Rattle.index.specs.Rules.{Item, keyOf, selectorOf}
 use Rattle.index.specs.Rules.Cuts.{Cut, lastOf}
 use Rattle.index.specs.Scan.{marked}
 use Rattle.index.specs.Scan.Marks.{marks, first-mark, true-marks}
-use Rattle.build.specs.Build.{itemKey}
-use Rattle.build.specs.Build.Laws.{Ready, below-64}
+use Rattle.built.specs.Build.{itemKey}
+use Rattle.built.specs.Build.Laws.{Ready, below-64}
 
 -- the selectors of records after one with key k
 unfoldable pub marksOn : ℕ → List Item → List ℕ
