@@ -1,2 +1,2 @@
--- What the code of build needs of the definitions in `built`.
+-- What the code of build needs of the definitions in `built` and `records`.
 pub mod Code

@@ -1,5 +1,4 @@
 // The builder of indexes (document 01, "The index"): each key's versions go into the current segment if all fit and else open a new one.
-pub mod records;
 pub mod segment;
 pub mod segments;
 
@@ -22,7 +21,7 @@ ghost use lib.ListN.{length};
 ghost use Rattle.number.specs.Big.{bytesOf, put};
 ghost use Rattle.tray.specs.Meaning.{runsOf};
 ghost use Rattle.built.specs.Build.{indexBytes, indexSize, build as buildOf, leaves};
-ghost use Rattle.build.specs.Code.{Sounded};
+ghost use Rattle.records.specs.Code.{Sounded};
 ghost use Rattle.build.specs.Code.Answers.{roomAnswer};
 
 // The header: runs, segment size, two zeros, and the segment count.

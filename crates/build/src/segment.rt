@@ -1,10 +1,10 @@
 // One segment: its anchor, its offsets, the selectors of its records, and placeholders to its end.
-use crate::records::put_keys;
 use heads::lead::fill_heads;
 use heads::lead::leader;
 use number::put2;
 use number::put8;
 use number::wide_size;
+use records::put_keys;
 ghost use mathlib.Core.Path.{_≡_};
 ghost use Prim.Native.Nat.{_+_, _*_, _-_, _≤_};
 ghost use lib.ListN.{length, replicate};
@@ -12,7 +12,7 @@ ghost use Rattle.number.specs.Big.{put};
 ghost use Rattle.tray.specs.Frame.{runCount};
 ghost use Rattle.index.specs.Scan.Code.{Reading};
 ghost use Rattle.heads.specs.Heads.Leads.{Heading};
-ghost use Rattle.build.specs.Code.{offsetsFrom, Segmented};
+ghost use Rattle.records.specs.Code.{offsetsFrom, Segmented};
 
 // The places as offsets, from byte 8 on.
 fn put_offsets(seg: &mut [u8], places: &[u16], h: u8)

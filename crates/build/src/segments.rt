@@ -11,7 +11,7 @@ ghost use lib.ListN.{length};
 ghost use Rattle.number.specs.Big.{put};
 ghost use Rattle.tray.specs.Meaning.{runsOf};
 ghost use Rattle.built.specs.Build.{cuts, segmentsBytes, indexSize};
-ghost use Rattle.build.specs.Code.{Sounded};
+ghost use Rattle.records.specs.Code.{Sounded};
 
 // How many segments there are. Each is written into the same stretch, and the output stays as it is.
 pub fn count_segments(t: &[u8], d: u8, f: TrayFrame, n: u64) -> u32

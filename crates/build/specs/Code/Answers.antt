@@ -38,8 +38,8 @@ use Rattle.built.specs.declared.BuildAnswer.the-variants.{Written, Refused}
 use Rattle.built.specs.Build.{cuts, segmentsBytes, indexBytes, indexSize, sizeFits, afterCheck, build, leaves}
 use Rattle.built.specs.Build.Bytes.{total-short}
 use Rattle.built.specs.Build.Theorems.{built-most}
-use Rattle.build.specs.Code.{Sounded}
-use Rattle.build.specs.Code.Writes.{put-before}
+use Rattle.records.specs.Code.{Sounded}
+use Rattle.records.specs.Code.Writes.{put-before}
 use Rattle.build.specs.Code.Loops.{sounded-fits}
 
 -- the answer for a sound tray

@@ -27,10 +27,10 @@ use Rattle.index.specs.Scan.Places.{placesOf}
 use Rattle.heads.specs.Heads.Leads.{NextRun, LeastKey}
 use Rattle.built.specs.Build.{itemKey}
 use Rattle.built.specs.Build.Laws.{Ready, below-64, rises-room}
-use Rattle.build.specs.Code.{otherKey, Stopped, After, over, other, stop, back, Fills, ends, cuts}
-use Rattle.build.specs.Code.Merge.{Reached, Stand, Came, next-first, none-left, least-first}
-use Rattle.build.specs.Code.Spelled.{marksOn, lastKey, lastKey-last, spells}
-use Rattle.build.specs.Code.Taken.{Taken, taken-reached, steps-taken}
+use Rattle.records.specs.Code.{otherKey, Stopped, After, over, other, stop, back, Fills, ends, cuts}
+use Rattle.records.specs.Code.Merge.{Reached, Stand, Came, next-first, none-left, least-first}
+use Rattle.records.specs.Code.Spelled.{marksOn, lastKey, lastKey-last, spells}
+use Rattle.records.specs.Code.Taken.{Taken, taken-reached, steps-taken}
 use Rattle.build.specs.Code.Given.{Holds, LastGroup, back-is}
 use Rattle.build.specs.Code.Packed.{pack-front, first-long}
 

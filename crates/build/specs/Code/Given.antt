@@ -19,8 +19,8 @@ use Rattle.index.specs.Rules.Laws.{marks-run}
 use Rattle.index.specs.Scan.{marked, raise}
 use Rattle.index.specs.Scan.Places.{placesOf, length-placesOf, raise-placesOf}
 use Rattle.built.specs.Build.{itemKey}
-use Rattle.build.specs.Code.{stop, lower, back}
-use Rattle.build.specs.Code.Spelled.{marksOn, lastKey, marksOn-snoc, lastKey-snoc, length-marksOn}
+use Rattle.records.specs.Code.{stop, lower, back}
+use Rattle.records.specs.Code.Spelled.{marksOn, lastKey, marksOn-snoc, lastKey-snoc, length-marksOn}
 
 -- the last of a list
 pub record Last (xs : List Item) : Type 0 where

@@ -34,9 +34,9 @@ use Rattle.built.specs.Build.Laws.{Ready, length-view}
 use Rattle.built.specs.Build.Bytes.{length-segmentBytes}
 use Rattle.built.specs.Build.Theorems.{sound-ready}
 use Rattle.heads.specs.Heads.{highest, Padded}
-use Rattle.build.specs.Code.{Segmented, Sounded}
-use Rattle.build.specs.Code.Writes.{put-nil}
-use Rattle.build.specs.Code.Merge.{Stand}
+use Rattle.records.specs.Code.{Segmented, Sounded}
+use Rattle.records.specs.Code.Writes.{put-nil}
+use Rattle.records.specs.Code.Merge.{Stand}
 use Rattle.build.specs.Code.Segments.{Cutting, segment-is}
 
 -- g segments have been cut, and so many records are left

@@ -23,8 +23,8 @@ use Rattle.index.specs.Scan.Places.{placesOf, getD-placesOf}
 use Rattle.built.specs.Build.{itemKey, anchorOf, offsetsBytes, segmentBytes}
 use Rattle.built.specs.Build.Laws.{Ready}
 use Rattle.built.specs.Build.Bytes.{length-offsetsBytes}
-use Rattle.build.specs.Code.{offsetsFrom, Segmented}
-use Rattle.build.specs.Code.Merge.{Stand, least-first}
+use Rattle.records.specs.Code.{offsetsFrom, Segmented}
+use Rattle.records.specs.Code.Merge.{Stand, least-first}
 use Rattle.build.specs.Code.Filled.{Filled, fill-is}
 
 -- two listed alike, number by number

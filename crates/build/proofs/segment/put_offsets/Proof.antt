@@ -1,8 +1,8 @@
 -- `build::segment::put_offsets` meets its contract. Invariant: the offsets from run r on, written from here, complete them. Measure: the runs
 -- left. Assumes nothing.
-use Rattle.build.specs.Code.Writes.{offsets-start}
-use Rattle.build.specs.Code.Writes.{offsets-end, offsets-next}
-use Rattle.build.specs.Code.{offsetsFrom}
+use Rattle.records.specs.Code.Writes.{offsets-start}
+use Rattle.records.specs.Code.Writes.{offsets-end, offsets-next}
+use Rattle.records.specs.Code.{offsetsFrom}
 use Rattle.number.specs.Big.{put}
 use lib.ListN.{length}
 use mathlib.Core.Path.{_≡_, refl, sym, _∙_}

@@ -1,6 +1,6 @@
 -- `build::segment::put_placeholders` meets its contract. Invariant: the placeholders from byte i on complete them. Measure: the bytes left.
 -- Assumes nothing.
-use Rattle.build.specs.Code.Writes.{holders-end, holders-next}
+use Rattle.records.specs.Code.Writes.{holders-end, holders-next}
 use Rattle.number.specs.Big.{put}
 use lib.ListN.{length, length-set, replicate}
 use mathlib.Core.Path.{_≡_, refl, sym, _∙_}

@@ -1,5 +1,5 @@
 -- `build::segment::put_segment` meets its contract: one write right behind the other. Assumes nothing.
-use Rattle.build.specs.Code.Writes.{segmented}
+use Rattle.records.specs.Code.Writes.{segmented}
 use Rattle.heads.specs.Heads.Leads.Next.{least-key}
 use native.Mathlib.Omega.{arith}
 use borrow.Author.Needs.{needs}
@@ -7,7 +7,7 @@ use Rattle.build.proofs.segment.put_segment.Statement.{statement}
 use Rattle.build.proofs.segment.put_segment.Tie as tie
 use Rattle.build.proofs.segment.put_segment.Reads as reads
 use Rattle.build.proofs.segment.put_segment.Lts as lts
-use Rattle.build.proofs.records.put_keys.Reads as put-keys-reads
+use Rattle.records.proofs.put_keys.Reads as put-keys-reads
 use Rattle.build.proofs.segment.put_offsets.Reads as put-offsets-reads
 use Rattle.build.proofs.segment.put_placeholders.Reads as put-placeholders-reads
 use Rattle.heads.proofs.lead.leader.Reads as leader-reads

@@ -1,6 +1,6 @@
 -- `build::segment::write_segment` meets its contract. Assumes nothing.
 use mathlib.Core.Path.{refl}
-use Rattle.build.specs.Code.Records.{reading-on}
+use Rattle.records.specs.Code.Records.{reading-on}
 use Rattle.build.specs.Code.Loops.{padded-none}
 use native.Mathlib.Omega.{arith}
 use borrow.Author.Needs.{needs}

@@ -22,10 +22,10 @@ use Rattle.index.specs.Scan.{marked, nextIn, raise}
 use Rattle.index.specs.Scan.Places.{placesOf, raise-placesOf}
 use Rattle.built.specs.Build.{itemKey}
 use Rattle.built.specs.Build.Laws.{Ready}
-use Rattle.build.specs.Code.{spelling, oldMark, Steps, none, more, Selecting}
-use Rattle.build.specs.Code.Writes.{put-nil}
-use Rattle.build.specs.Code.Merge.{Reached, next-first}
-use Rattle.build.specs.Code.Spelled.{marksOn, lastKey, marksOn-snoc, lastKey-snoc, length-marksOn}
+use Rattle.records.specs.Code.{spelling, oldMark, Steps, none, more, Selecting}
+use Rattle.records.specs.Code.Writes.{put-nil}
+use Rattle.records.specs.Code.Merge.{Reached, next-first}
+use Rattle.records.specs.Code.Spelled.{marksOn, lastKey, marksOn-snoc, lastKey-snoc, length-marksOn}
 
 -- after b, the records own have been taken and written from a place on, after a key k
 pub record Taken (t : List ℕ) (b w : List Item) (seg : List ℕ) (from k : ℕ) (places′ seg′ : List ℕ) (at last : ℕ) : Type 0 where

@@ -1,7 +1,7 @@
--- `build::records::gone_mark` meets its contract: the test that was taken is the one that the mark says. Assumes nothing.
+-- `records::gone_mark` meets its contract: the test that was taken is the one that the mark says. Assumes nothing.
 use borrow.Author.Tests.{eq-eqb, ne-eqb}
-use Rattle.build.proofs.records.gone_mark.Statement.{statement}
-use Rattle.build.proofs.records.gone_mark.Tie as tie
+use Rattle.records.proofs.gone_mark.Statement.{statement}
+use Rattle.records.proofs.gone_mark.Tie as tie
 
 returns : tie.Need-returns
 returns c = simp (eq-eqb _ _ (c .if1 .taken))

@@ -1,14 +1,14 @@
--- `build::records::take_record` meets its contract. `run-cut` says that the stretch handed on is run r. Assumes nothing.
-use Rattle.build.specs.Code.Records.{mark-low, spelled}
+-- `records::take_record` meets its contract. `run-cut` says that the stretch handed on is run r. Assumes nothing.
+use Rattle.records.specs.Code.Records.{mark-low, spelled}
 use Rattle.heads.specs.Heads.Leads.Laws.{place-low}
 use Rattle.heads.specs.Heads.Laws.{run-cut}
 use native.Mathlib.Omega.{arith}
 use borrow.Author.Needs.{needs}
-use Rattle.build.proofs.records.take_record.Statement.{statement}
-use Rattle.build.proofs.records.take_record.Tie as tie
-use Rattle.build.proofs.records.take_record.Reads as reads
-use Rattle.build.proofs.records.take_record.Lts as lts
-use Rattle.build.proofs.records.gone_mark.Reads as gone-mark-reads
+use Rattle.records.proofs.take_record.Statement.{statement}
+use Rattle.records.proofs.take_record.Tie as tie
+use Rattle.records.proofs.take_record.Reads as reads
+use Rattle.records.proofs.take_record.Lts as lts
+use Rattle.records.proofs.gone_mark.Reads as gone-mark-reads
 use Rattle.heads.proofs.lead.advance.Reads as advance-reads
 use Rattle.number.proofs.wide_size.Reads as wide-size-reads
 use Rattle.tray.proofs.run.kind_at.Reads as kind-at-reads

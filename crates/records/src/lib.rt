@@ -14,7 +14,7 @@ ghost use lib.Dec.{eqb};
 ghost use Rattle.tray.specs.Frame.{runCount, countOf};
 ghost use Rattle.index.specs.Scan.{raise};
 ghost use Rattle.heads.specs.Heads.Leads.{Heading};
-ghost use Rattle.build.specs.Code.{spelling, oldMark, otherKey, Stopped, stop, back, Selecting, Fills};
+ghost use Rattle.records.specs.Code.{spelling, oldMark, otherKey, Stopped, stop, back, Selecting, Fills};
 
 // The mark of a gone record.
 fn gone_mark(kind: u8) -> u8

@@ -1,16 +1,16 @@
--- `build::records::put_records` meets its contract. Invariant: records have been written as far as a place. Measure: the room left.
+-- `records::put_records` meets its contract. Invariant: records have been written as far as a place. Measure: the room left.
 -- Assumes nothing.
 use Prim.Native.Nat.{_-_}
-use Rattle.build.specs.Code.Records.{Putting, putting-none, putting-more, putting-end, old-low}
+use Rattle.records.specs.Code.Records.{Putting, putting-none, putting-more, putting-end, old-low}
 use Rattle.heads.specs.Heads.Leads.Next.{next-run, next-none}
 use native.Mathlib.Omega.{arith}
 use borrow.Author.Needs.{needs}
-use Rattle.build.proofs.records.put_records.Statement.{statement}
-use Rattle.build.proofs.records.put_records.Tie as tie
-use Rattle.build.proofs.records.put_records.Reads as reads
-use Rattle.build.proofs.records.put_records.Lts as lts
-use Rattle.build.proofs.records.old_mark.Reads as old-mark-reads
-use Rattle.build.proofs.records.take_record.Reads as take-record-reads
+use Rattle.records.proofs.put_records.Statement.{statement}
+use Rattle.records.proofs.put_records.Tie as tie
+use Rattle.records.proofs.put_records.Reads as reads
+use Rattle.records.proofs.put_records.Lts as lts
+use Rattle.records.proofs.old_mark.Reads as old-mark-reads
+use Rattle.records.proofs.take_record.Reads as take-record-reads
 use Rattle.heads.proofs.lead.choose.Reads as choose-reads
 use Rattle.heads.proofs.lead.leader.Reads as leader-reads
 

@@ -1,16 +1,16 @@
--- `build::records::put_keys` meets its contract: what comes next has the last key, has another one, or is nothing. Assumes nothing.
-use Rattle.build.specs.Code.Records.{fills-cut, fills-other, fills-over}
-use Rattle.build.specs.Code.Taken.{steps-select}
+-- `records::put_keys` meets its contract: what comes next has the last key, has another one, or is nothing. Assumes nothing.
+use Rattle.records.specs.Code.Records.{fills-cut, fills-other, fills-over}
+use Rattle.records.specs.Code.Taken.{steps-select}
 use Rattle.heads.specs.Heads.Leads.Next.{next-run, next-none}
 use native.Mathlib.Omega.{arith}
 use borrow.Author.Needs.{needs}
-use Rattle.build.proofs.records.put_keys.Statement.{statement}
-use Rattle.build.proofs.records.put_keys.Tie as tie
-use Rattle.build.proofs.records.put_keys.Reads as reads
-use Rattle.build.proofs.records.put_keys.Lts as lts
-use Rattle.build.proofs.records.cut_back.Reads as cut-back-reads
-use Rattle.build.proofs.records.other_key.Reads as other-key-reads
-use Rattle.build.proofs.records.put_records.Reads as put-records-reads
+use Rattle.records.proofs.put_keys.Statement.{statement}
+use Rattle.records.proofs.put_keys.Tie as tie
+use Rattle.records.proofs.put_keys.Reads as reads
+use Rattle.records.proofs.put_keys.Lts as lts
+use Rattle.records.proofs.cut_back.Reads as cut-back-reads
+use Rattle.records.proofs.other_key.Reads as other-key-reads
+use Rattle.records.proofs.put_records.Reads as put-records-reads
 use Rattle.heads.proofs.lead.choose.Reads as choose-reads
 use Rattle.heads.proofs.lead.leader.Reads as leader-reads
 

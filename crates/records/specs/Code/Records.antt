@@ -20,7 +20,7 @@ use Rattle.tray.specs.Run.{recordAt}
 use Rattle.index.specs.Scan.{nextIn, raise}
 use Rattle.index.specs.Scan.Code.{Reading}
 use Rattle.heads.specs.Heads.Leads.{Heading, NextRun, NoRun}
-use Rattle.build.specs.Code.{spelling, oldMark, otherKey, Steps, none, more, Stopped, over, other, stop, lower, back, Fills, ends, cuts}
+use Rattle.records.specs.Code.{spelling, oldMark, otherKey, Steps, none, more, Stopped, over, other, stop, lower, back, Fills, ends, cuts}
 
 -- the marks
 pub mark-low : (k : ℕ) {w : ℕ} → w ≡ cond (eqb k 0) 0 64 → w ≤ 64

@@ -1,14 +1,14 @@
--- `build::records::cut_back` meets its contract. Invariant: the selectors from i on have been given back. Measure: i. Assumes nothing.
+-- `records::cut_back` meets its contract. Invariant: the selectors from i on have been given back. Measure: i. Assumes nothing.
 use Prim.Native.Nat.{_-_}
 use mathlib.Core.Path.{refl}
-use Rattle.build.specs.Code.Records.{Backing, backing-none, backing-on, backing-stop, backing-end}
+use Rattle.records.specs.Code.Records.{Backing, backing-none, backing-on, backing-stop, backing-end}
 use native.Mathlib.Omega.{arith}
 use borrow.Author.Needs.{needs}
-use Rattle.build.proofs.records.cut_back.Statement.{statement}
-use Rattle.build.proofs.records.cut_back.Tie as tie
-use Rattle.build.proofs.records.cut_back.Reads as reads
-use Rattle.build.proofs.records.cut_back.Lts as lts
-use Rattle.build.proofs.records.less.Reads as less-reads
+use Rattle.records.proofs.cut_back.Statement.{statement}
+use Rattle.records.proofs.cut_back.Tie as tie
+use Rattle.records.proofs.cut_back.Reads as reads
+use Rattle.records.proofs.cut_back.Lts as lts
+use Rattle.records.proofs.less.Reads as less-reads
 use Rattle.number.proofs.wide_size.Reads as wide-size-reads
 
 abbrev Inv-loop : tie.InvT-loop

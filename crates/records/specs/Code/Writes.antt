@@ -17,7 +17,7 @@ use Rattle.number.specs.Big.Writes.{put-sets, put-put}
 use Rattle.theory.specs.Pack.{joined}
 use Rattle.theory.specs.Listed.{listed}
 use Rattle.heads.specs.Heads.Leads.{LeastKey}
-use Rattle.build.specs.Code.{offsetsFrom, otherKey, Fills, Segmented}
+use Rattle.records.specs.Code.{offsetsFrom, otherKey, Fills, Segmented}
 
 pub put-nil : (s : List ℕ) (p : ℕ) → put s p [] ≡ s
 unfolding put
