@@ -1,5 +1,6 @@
 -- What sheet answers, and what it leaves in the output, for every input (document 01, order: 1, 4, 8, 9, 10, 7). It writes nothing unless all is
 -- well. Assumes nothing.
+mod Cases
 pub mod Code
 use Prim.Native.Nat.{ℕ, _-_, _*_}
 use mathlib.Core.Bool.{Bool, cond, _&&_}
