@@ -1,9 +1,10 @@
 -- What sheet answers, and what it leaves in the output, for every input (document 01, order: 1, 4, 8, 9, 10, 7). It writes nothing unless all is
 -- well. Assumes nothing.
+mod Cases
 pub mod Code
 use Prim.Native.Nat.{ℕ, _-_, _*_}
-use mathlib.Core.Bool.{Bool, cond, not, _&&_}
-use mathlib.Core.List.{List, []}
+use mathlib.Core.Bool.{Bool, cond, _&&_}
+use mathlib.Core.List.{List}
 use lib.ListN.{length, getD}
 use lib.Dec.{eqb, leb}
 use Rattle.number.specs.Big.{put}

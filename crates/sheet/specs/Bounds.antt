@@ -4,11 +4,11 @@
 --     filled-long, high-set                                 the upper bound
 -- Assumes nothing.
 use mathlib.Core.Path.{_≡_, refl, sym, ap, ap₂, _∙_}
-use Prim.Native.Nat.{ℕ, zero, suc, _+_, _-_, _*_, _^_, _≤_, _<_}
-use native.Mathlib.Nat.{zero-add, add-zero, suc-mul}
+use Prim.Native.Nat.{ℕ, suc, _+_, _-_, _*_, _^_, _≤_, _<_}
+use native.Mathlib.Nat.{zero-add, suc-mul}
 use native.Mathlib.Numerals.{add-one}
 use native.Mathlib.Omega.{arith}
-use mathlib.Core.List.{List, [], _∷_, _++_}
+use mathlib.Core.List.{List, _++_}
 use lib.ListN.{length, getD, set, take, replicate, length-set, length-append, length-replicate, List·getD-append}
 use lib.Seq.{length-take-le, set-at, append-snoc, take-suc, take-all, getD-set-same, getD-set-other}
 use Rattle.number.specs.Big.{be}

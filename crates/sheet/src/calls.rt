@@ -16,15 +16,15 @@ use walk::cursor::Sight;
 use walk::seek::seek_from;
 ghost use mathlib.Core.Path.{_≡_};
 ghost use mathlib.Core.List.{[]};
-ghost use Prim.Native.Nat.{_*_, _-_, _≤_, _<_};
-ghost use lib.ListN.{length, getD};
+ghost use Prim.Native.Nat.{_*_, _≤_, _<_};
+ghost use lib.ListN.{length};
 ghost use Rattle.tray.specs.Frame.{Starts, Opened};
 ghost use Rattle.index.specs.Layout.Code.{Laid};
 ghost use Rattle.walk.specs.Walk.{walkFrom};
 ghost use Rattle.walk.specs.Reads.{seek, sheetVisit, sheetFrom};
 ghost use Rattle.walk.specs.Code.{Walking, spotOf};
-ghost use Rattle.sheet.specs.Answers.{listedIn, sheetTold, sheetFramed, sheetAnswer, sheetLeaves};
-ghost use Rattle.sheet.specs.Answers.Code.{listedAs, Leaves, left, nothingAt};
+ghost use Rattle.sheet.specs.Answers.{sheetFramed, sheetAnswer, sheetLeaves};
+ghost use Rattle.sheet.specs.Answers.Code.{nothingAt, Gives, Leaves};
 
 // How many records were listed, or why none were.
 pub enum SheetAnswer {
@@ -59,7 +59,6 @@ fn write_counted(
     requires { ⌜ Walking (now t) (now x) h d n (now counts) ⌝ }
     requires { ⌜ Starts (now t) (now starts) ⌝ }
     requires { ⌜ (from .segment .0 < n) × (from .selector ≤ d) × (count ≤ 256 * n) ⌝ }
-    ensures { λ r. ⌜ r ≡ listedAs (length (now (out .entry))) count ⌝ }
     ensures { λ r. ⌜ Leaves (now (t .entry)) (now (x .entry)) (spotOf from) count (now (out .entry)) (now (out .exit)) r ⌝ }
 {
     let k = 24 * count;
@@ -87,8 +86,7 @@ fn list_from(
     requires { ⌜ Walking (now t) (now x) h d n (now counts) ⌝ }
     requires { ⌜ Starts (now t) (now starts) ⌝ }
     requires { ⌜ (from .segment .0 < n) × (from .selector ≤ d) ⌝ }
-    ensures { λ r. ⌜ r ≡ sheetTold (length (now (out .entry))) (walkFrom (now (t .entry)) (now (x .entry)) (sheetVisit (now (t .entry)) high) (spotOf from) []) ⌝ }
-    ensures { λ r. ⌜ now (out .exit) ≡ left (walkFrom (now (t .entry)) (now (x .entry)) (sheetVisit (now (t .entry)) high) (spotOf from) []) (now (out .entry)) r ⌝ }
+    ensures { λ r. ⌜ Gives (walkFrom (now (t .entry)) (now (x .entry)) (sheetVisit (now (t .entry)) high) (spotOf from) []) (now (out .entry)) (now (out .exit)) r ⌝ }
 {
     let counted = count_from(t, x, h, d, n, counts, starts, from, high);
     let stop = counted.stop;
@@ -112,8 +110,7 @@ fn sheet_between(
 ) -> SheetAnswer
     requires { ⌜ Opened (now t) f ⌝ }
     requires { ⌜ Laid (now t) (now x) d n ⌝ }
-    ensures { λ r. ⌜ r ≡ sheetTold (length (now (out .entry))) (sheetFrom (now (t .entry)) (now (x .entry)) high (seek (now (t .entry)) (now (x .entry)) low)) ⌝ }
-    ensures { λ r. ⌜ now (out .exit) ≡ left (sheetFrom (now (t .entry)) (now (x .entry)) high (seek (now (t .entry)) (now (x .entry)) low)) (now (out .entry)) r ⌝ }
+    ensures { λ r. ⌜ Gives (sheetFrom (now (t .entry)) (now (x .entry)) high (seek (now (t .entry)) (now (x .entry)) low)) (now (out .entry)) (now (out .exit)) r ⌝ }
 {
     let h = f.runs;
     let counts = f.counts;

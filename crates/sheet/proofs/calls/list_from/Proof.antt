@@ -1,6 +1,5 @@
 -- `sheet::calls::list_from` meets its contract. Assumes nothing.
-use Rattle.sheet.specs.Answers.Code.{left, told-lost, told-listed, counted-bound, counted-end}
-use mathlib.Core.Path.{refl}
+use Rattle.sheet.specs.Answers.Code.{gives-lost, gives-bound, gives-end}
 use borrow.Author.Needs.{needs}
 use Rattle.sheet.proofs.calls.list_from.Statement.{statement}
 use Rattle.sheet.proofs.calls.list_from.Tie as tie
@@ -24,20 +23,19 @@ write-counted-requires-2 : tie.Need-write-counted-requires-2
 write-counted-requires-2 c κs = search needs
 
 returns : tie.Need-returns
-unfolding left
-returns c = (told-lost _ _ (c .before .before .before .count-from .ensures .0) _ (c .before .stop .given .1), refl)
+returns c = gives-lost _ _ _ _ _ (c .before .before .before .count-from .ensures .0) _ (c .before .stop .given .1)
 
 same-length : tie.Need-same-length
 same-length c = search needs
 
 returns-2 : tie.Need-returns-2
-returns-2 c = let z = counted-bound _ _ (c .before .before .before .before .before .before .count-from .ensures .0) (c .before .before .before .before .enum-told .given .1) in (told-listed _ (z .1) (z .2) (c .before .before .write-counted .ensures .0), c .before .before .write-counted .ensures .1 .of _ (z .0) (z .1) (z .2))
+returns-2 c = gives-bound _ _ _ _ _ (c .before .before .before .before .before .before .count-from .ensures .0) (c .before .before .write-counted .ensures) (c .before .before .before .before .enum-told .given .1)
 
 same-length-2 : tie.Need-same-length-2
 same-length-2 c = search needs
 
 returns-3 : tie.Need-returns-3
-returns-3 c = let z = counted-end _ _ (c .before .before .before .before .before .before .count-from .ensures .0) (c .before .before .before .before .enum-told2 .given .1) in (told-listed _ (z .1) (z .2) (c .before .before .write-counted2 .ensures .0), c .before .before .write-counted2 .ensures .1 .of _ (z .0) (z .1) (z .2))
+returns-3 c = gives-end _ _ _ _ _ (c .before .before .before .before .before .before .count-from .ensures .0) (c .before .before .write-counted2 .ensures) (c .before .before .before .before .enum-told2 .given .1)
 
 pub list-from-spec : {M : Type 1} → statement M
 list-from-spec =

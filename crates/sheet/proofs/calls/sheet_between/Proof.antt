@@ -1,18 +1,14 @@
 -- `sheet::calls::sheet_between` meets its contract. Assumes nothing.
 use Rattle.walk.specs.Code.Inside.{seek-below}
-use Rattle.sheet.specs.Answers.Code.{left, between-is, past-bound, past-none, past-left, between-none, none-left}
-use Rattle.sheet.specs.Answers.{sheetTold}
+use Rattle.sheet.specs.Answers.Code.{gives-none, gives-past, gives-found}
 use Rattle.walk.specs.Answers.Code.{walking}
 use Rattle.walk.specs.Code.Get.{found-there, not-found}
-use Rattle.walk.specs.Walk.{Walked}
 use Rattle.walk.proofs.cursor.Sight.{the-type}
 use Rattle.walk.specs.declared.cursor.Sight.{Sight}
-use Rattle.theory.specs.Records.{Record}
 use denote.Enum.Declared.{tagOf}
-use denote.Ref.{now}
 use types.Run.{OneOf}
-use mathlib.Core.List.{List, [], _∷_}
-use mathlib.Core.Path.{sym, ap, subst, _∙_}
+use mathlib.Core.List.{[], _∷_}
+use mathlib.Core.Path.{sym, subst}
 use native.Mathlib.Omega.{arith}
 use borrow.Author.Needs.{needs}
 use Rattle.sheet.proofs.calls.sheet_between.Statement.{statement}
@@ -37,7 +33,7 @@ found-nothing-requires : tie.Need-found-nothing-requires
 found-nothing-requires c κs = search needs
 
 returns : tie.Need-returns
-returns c = (between-none _ _ _ _ (walking (c .before .before .before .before .before .before .before .before .before .before .before .pre .0) (c .before .before .before .before .before .before .before .before .before .before .before .pre .1)) (c .before .before .before .before .before .start-at .ensures) (c .before .before .seek-from .ensures) _ (λ run place z. not-found (subst (λ (s : Sight). OneOf (1 ∷ 2 ∷ []) (tagOf the-type s)) z (c .before .match .keys2))) _ (c .found-nothing .ensures), none-left _ _ _ _ (walking (c .before .before .before .before .before .before .before .before .before .before .before .pre .0) (c .before .before .before .before .before .before .before .before .before .before .before .pre .1)) (c .before .before .before .before .before .start-at .ensures) (c .before .before .seek-from .ensures) _ (λ run place z. not-found (subst (λ (s : Sight). OneOf (1 ∷ 2 ∷ []) (tagOf the-type s)) z (c .before .match .keys2))) _ (c .found-nothing .ensures))
+returns c = gives-none _ _ _ _ (walking (c .before .before .before .before .before .before .before .before .before .before .before .pre .0) (c .before .before .before .before .before .before .before .before .before .before .before .pre .1)) (c .before .before .before .before .before .start-at .ensures) (c .before .before .seek-from .ensures) _ _ (λ run place z. not-found (subst (λ (s : Sight). OneOf (1 ∷ 2 ∷ []) (tagOf the-type s)) z (c .before .match .keys2))) (c .found-nothing .ensures)
 
 slice-aggregate-head-of : tie.Need-slice-aggregate-head-of
 slice-aggregate-head-of c = sym (c .before .before .before .before .before .before .before .before .before .before .before .before .before .pre .0 .at .room)
@@ -46,7 +42,7 @@ head-of-requires : tie.Need-head-of-requires
 head-of-requires c κs = let z = found-there _ _ _ _ (walking (c .before .before .before .before .before .before .before .before .before .before .before .before .before .pre .0) (c .before .before .before .before .before .before .before .before .before .before .before .before .before .pre .1)) (c .before .before .before .before .before .before .before .start-at .ensures) (c .before .before .before .before .seek-from .ensures) (c .before .before .sight .given .1) in (c .before .before .before .before .before .before .before .before .before .before .before .before .before .pre .0 .at, (z .0, z .1))
 
 returns-2 : tie.Need-returns-2
-returns-2 c = let z = past-bound _ _ _ _ (walking (c .before .before .before .before .before .before .before .before .before .before .before .before .before .before .before .before .pre .0) (c .before .before .before .before .before .before .before .before .before .before .before .before .before .before .before .before .pre .1)) (c .before .before .before .before .before .before .before .before .before .before .start-at .ensures) (c .before .before .before .before .before .before .before .seek-from .ensures) _ (c .before .before .before .before .before .sight .given .1) (c .before .before .head-of .ensures .key) (c .if1 .taken) in (past-none z _, past-left z _ _)
+returns-2 c = gives-past _ _ _ _ (walking (c .before .before .before .before .before .before .before .before .before .before .before .before .before .before .before .before .pre .0) (c .before .before .before .before .before .before .before .before .before .before .before .before .before .before .before .before .pre .1)) (c .before .before .before .before .before .before .before .before .before .before .start-at .ensures) (c .before .before .before .before .before .before .before .seek-from .ensures) _ _ (c .before .before .before .before .before .sight .given .1) (c .before .before .head-of .ensures .key) (c .if1 .taken)
 
 slice-aggregate-list-from : tie.Need-slice-aggregate-list-from
 slice-aggregate-list-from c = sym (c .before .before .before .before .before .before .before .before .before .before .before .before .before .before .before .before .before .before .pre .0 .room)
@@ -61,7 +57,7 @@ same-length : tie.Need-same-length
 same-length c = search needs
 
 returns-3 : tie.Need-returns-3
-returns-3 c = let z = between-is _ _ _ _ (walking (c .before .before .before .before .before .before .before .before .before .before .before .before .before .before .before .before .before .before .before .before .before .before .before .pre .0) (c .before .before .before .before .before .before .before .before .before .before .before .before .before .before .before .before .before .before .before .before .before .before .before .pre .1)) (c .before .before .before .before .before .before .before .before .before .before .before .before .before .before .before .before .before .start-at .ensures) (c .before .before .before .before .before .before .before .before .before .before .before .before .before .before .seek-from .ensures) _ (c .before .before .before .before .before .before .before .before .before .before .before .before .sight .given .1) in (c .before .before .list-from .ensures .0 ∙ ap (sheetTold _) z, c .before .before .list-from .ensures .1 ∙ ap (λ (w : Walked (List Record) (List Record)). left w (now (c .before .before .before .before .before .before .before .before .before .before .before .before .before .before .before .before .before .before .before .before .before .before .before .args .out)) (c .before .before .list-from .result)) z)
+returns-3 c = gives-found _ _ _ _ (walking (c .before .before .before .before .before .before .before .before .before .before .before .before .before .before .before .before .before .before .before .before .before .before .before .pre .0) (c .before .before .before .before .before .before .before .before .before .before .before .before .before .before .before .before .before .before .before .before .before .before .before .pre .1)) (c .before .before .before .before .before .before .before .before .before .before .before .before .before .before .before .before .before .start-at .ensures) (c .before .before .before .before .before .before .before .before .before .before .before .before .before .before .seek-from .ensures) _ (c .before .before .before .before .before .before .before .before .before .before .before .before .sight .given .1) (c .before .before .list-from .ensures)
 
 pub sheet-between-spec : {M : Type 1} → statement M
 sheet-between-spec =

@@ -1,13 +1,10 @@
 -- `sheet::calls::sheet_framed` meets its contract. Assumes nothing.
 use lib.ListN.{length}
 use Prim.Native.Nat.{_-_}
-use Rattle.sheet.specs.Answers.Code.{left, framed-none, framed-long, framed-last, framed-walked, between-bounds, left-leaves}
-use Rattle.sheet.specs.Answers.{sheetTold, sheetLeaves}
-use Rattle.walk.specs.Walk.{Walked}
-use Rattle.theory.specs.Records.{Record}
+use Rattle.sheet.specs.Answers.Code.{framed-none, framed-long, framed-last, framed-gives}
+use Rattle.sheet.specs.Answers.{sheetLeaves}
 use denote.Ref.{now}
-use mathlib.Core.List.{List}
-use mathlib.Core.Path.{refl, ap, _∙_}
+use mathlib.Core.Path.{refl}
 use native.Mathlib.Omega.{arith}
 use borrow.Author.Needs.{needs}
 use Rattle.sheet.proofs.calls.sheet_framed.Statement.{statement}
@@ -29,7 +26,7 @@ shared-slice-read-if3 c = search needs
 
 returns-3 : tie.Need-returns-3
 unfolding sheetLeaves
-returns-3 c = (framed-last _ _ _ _ (omega arith) (c .before .before .if2 .left) (c .if3 .taken), refl)
+returns-3 c = (framed-last _ _ _ (omega arith) (c .before .before .if2 .left) _ (c .if3 .taken), refl)
 
 low-key-requires : tie.Need-low-key-requires
 low-key-requires c κs = search needs
@@ -44,7 +41,7 @@ same-length : tie.Need-same-length
 same-length c = search needs
 
 returns-4 : tie.Need-returns-4
-returns-4 c = let z = between-bounds _ _ (now (c .before .before .before .before .before .before .before .before .before .before .before .before .before .before .args .prefix)) (c .before .before .before .before .before .low-key .ensures) (c .before .before .before .before .high-key .ensures) in (c .before .before .sheet-between .ensures .0 ∙ ap (sheetTold _) z ∙ framed-walked _ _ _ _ (omega arith) (c .before .before .before .before .before .before .before .before .if2 .left) (c .before .before .before .before .before .before .if3 .left), c .before .before .sheet-between .ensures .1 ∙ ap (λ (w : Walked (List Record) (List Record)). left w (now (c .before .before .before .before .before .before .before .before .before .before .before .before .before .before .args .out)) (c .before .before .sheet-between .result)) z ∙ left-leaves _ _ _ _ _)
+returns-4 c = framed-gives _ _ _ (omega arith) (c .before .before .before .before .before .before .before .before .if2 .left) (c .before .before .before .before .before .before .if3 .left) (c .before .before .before .before .before .low-key .ensures) (c .before .before .before .before .high-key .ensures) (c .before .before .sheet-between .ensures)
 
 pub sheet-framed-spec : {M : Type 1} → statement M
 sheet-framed-spec =

@@ -1,5 +1,5 @@
 -- `sheet::calls::write_counted` meets its contract. Assumes nothing.
-use Rattle.sheet.specs.Answers.Code.{listed-fits, listed-short, leaves-full, leaves-written}
+use Rattle.sheet.specs.Answers.Code.{leaves-written, leaves-short}
 use lib.Seq.{length-take-le}
 use mathlib.Core.Path.{refl, sym}
 use native.Mathlib.Omega.{arith}
@@ -23,10 +23,10 @@ same-length : tie.Need-same-length
 same-length c = search needs
 
 returns : tie.Need-returns
-returns c = (listed-fits _ _ (c .before .before .before .before .if1 .taken), leaves-written _ _ _ _ _ (c .before .before .page-from .last .1 .1 .1 .1 .1 .1 .1 .1 .0) refl (omega arith) (c .before .before .page-from .ensures) _)
+returns c = leaves-written _ _ _ _ _ (c .before .before .page-from .last .1 .1 .1 .1 .1 .1 .1 .1 .0) refl (omega arith) (c .before .before .page-from .ensures)
 
 returns-2 : tie.Need-returns-2
-returns-2 c = (listed-short _ _ (c .if1 .left), leaves-full _ _ _ _ _ _)
+returns-2 c = leaves-short _ _ _ _ (c .if1 .left)
 
 pub write-counted-spec : {M : Type 1} → statement M
 write-counted-spec =
