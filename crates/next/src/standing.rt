@@ -3,8 +3,8 @@ use index::SegmentNo;
 use index::frame::segment_at;
 use number::big2;
 use number::wide_size;
+use number::wide32;
 use tray::Place;
-use tray::frame::size16;
 use walk::cursor::Cursor;
 ghost use mathlib.Core.Path.{_≡_};
 ghost use Prim.Native.Nat.{_+_, _-_, _*_, _≤_, _<_};
@@ -15,21 +15,29 @@ ghost use Rattle.walk.specs.Reads.{placesAt, samePlaces, belongs as belongsTo};
 ghost use Rattle.walk.specs.Code.{numbers, spotOf};
 ghost use Rattle.next.specs.Standing.{sumFor, Tallied, wantedAt};
 
-// A place as a number, and how high it can be.
-fn place_size(p: Place) -> usize
+// The number of 16 bits, as 32: sums of places need no more, and four of them are added at once.
+fn wide_16(x: u16) -> u32
+    ensures { λ n. ⌜ n ≡ x ⌝ }
+    ensures { λ n. ⌜ n ≤ 65535 ⌝ }
+{
+    x as u32
+}
+
+// A place as a number.
+fn place_size(p: Place) -> u32
     ensures { λ n. ⌜ n ≡ p .0 ⌝ }
     ensures { λ n. ⌜ n ≤ 65535 ⌝ }
 {
     let q = p.0;
-    size16(q)
+    wide_16(q)
 }
 
 // The sum of the places from a run on: 0 exactly where all of them are.
-fn sum_from(places: [Place; 63], from: usize) -> usize
+fn sum_from(places: [Place; 63], from: usize) -> u32
     requires { ⌜ from ≤ 63 ⌝ }
     ensures { λ n. ⌜ n ≡ sumFor (63 - from) (numbers places) from ⌝ }
 {
-    let mut sum: usize = 0;
+    let mut sum: u32 = 0;
     let mut r = from;
     while r < 63 {
         sum += place_size(places[r]);
@@ -62,7 +70,7 @@ fn places_hold(x: &[u8], at: usize, h: u8, seen: &[u8], places: [Place; 63]) -> 
     let mut r = wide_size(h);
     while 0 < r {
         r -= 1;
-        if place_size(places[r]) == size16(big2(x, at + 8 + 2 * r)) + wide_size(seen[r]) {
+        if place_size(places[r]) == wide_16(big2(x, at + 8 + 2 * r)) + wide32(seen[r]) {
             continue;
         }
         return false;

@@ -45,26 +45,26 @@ add-big2-2 c = omega arith
 big2-requires : tie.Need-big2-requires Inv-loop μ-loop
 big2-requires c κs = omega arith
 
-size16-requires : tie.Need-size16-requires Inv-loop μ-loop
-size16-requires c κs = search needs
+wide-16-requires : tie.Need-wide-16-requires Inv-loop μ-loop
+wide-16-requires c κs = search needs
 
-shared-slice-read-wide-size : tie.Need-shared-slice-read-wide-size Inv-loop μ-loop
-shared-slice-read-wide-size c = omega arith
+shared-slice-read-wide32 : tie.Need-shared-slice-read-wide32 Inv-loop μ-loop
+shared-slice-read-wide32 c = omega arith
 
-wide-size-requires-2 : tie.Need-wide-size-requires-2 Inv-loop μ-loop
-wide-size-requires-2 c κs = search needs
+wide32-requires : tie.Need-wide32-requires Inv-loop μ-loop
+wide32-requires c κs = search needs
 
 add-if1 : tie.Need-add-if1 Inv-loop μ-loop
-add-if1 c = omega (arith, c .before .before .size16 .ensures, c .wide-size2 .ensures, c .before .shared-slice-known3 .given (c .before .before .before .before .before .before .before .loop .r - 1))
+add-if1 c = omega (arith, c .before .before .wide-16 .ensures .1, c .wide32 .ensures, c .before .shared-slice-known3 .given (c .before .before .before .before .before .before .before .loop .r - 1))
 
 loop-less : tie.Need-loop-less Inv-loop μ-loop
 loop-less c = omega arith
 
 loop-again : tie.Need-loop-again Inv-loop μ-loop
-loop-again c = (omega arith, sym (same-next _ _ (c .before .before .before .before .before .before .before .loop-test .taken) refl (getD-numbers _ _ ∙ sym (c .before .before .before .before .before .place-size .ensures .0) ∙ c .if1 .taken ∙ wanted-run _ _ _ _ (c .before .before .before .before .before .before .before .before .before .before .before .before .pre .1) (omega arith) (c .before .before .before .size16 .ensures ∙ c .before .before .before .before .big2 .ensures) (c .before .wide-size2 .ensures))) ∙ c .before .before .before .before .before .before .before .before .loop .inv .1)
+loop-again c = (omega arith, sym (same-next _ _ (c .before .before .before .before .before .before .before .loop-test .taken) refl (getD-numbers _ _ ∙ sym (c .before .before .before .before .before .place-size .ensures .0) ∙ c .if1 .taken ∙ wanted-run _ _ _ _ (c .before .before .before .before .before .before .before .before .before .before .before .before .pre .1) (omega arith) (c .before .before .before .wide-16 .ensures .0 ∙ c .before .before .before .before .big2 .ensures) (c .before .wide32 .ensures))) ∙ c .before .before .before .before .before .before .before .before .loop .inv .1)
 
 returns : tie.Need-returns Inv-loop μ-loop
-returns c = sym (same-stop _ _ (c .before .before .before .before .before .before .before .loop-test .taken) refl (λ z. c .if1 .left (c .before .before .before .before .before .place-size .ensures .0 ∙ sym (getD-numbers _ _) ∙ z ∙ sym (wanted-run _ _ _ _ (c .before .before .before .before .before .before .before .before .before .before .before .before .pre .1) (omega arith) (c .before .before .before .size16 .ensures ∙ c .before .before .before .before .big2 .ensures) (c .before .wide-size2 .ensures))))) ∙ c .before .before .before .before .before .before .before .before .loop .inv .1
+returns c = sym (same-stop _ _ (c .before .before .before .before .before .before .before .loop-test .taken) refl (λ z. c .if1 .left (c .before .before .before .before .before .place-size .ensures .0 ∙ sym (getD-numbers _ _) ∙ z ∙ sym (wanted-run _ _ _ _ (c .before .before .before .before .before .before .before .before .before .before .before .before .pre .1) (omega arith) (c .before .before .before .wide-16 .ensures .0 ∙ c .before .before .before .before .big2 .ensures) (c .before .wide32 .ensures))))) ∙ c .before .before .before .before .before .before .before .before .loop .inv .1
 
 returns-2 : tie.Need-returns-2 Inv-loop μ-loop
 returns-2 c = same-end _ _ (c .loop-test .left) ∙ c .before .loop .inv .1
@@ -85,9 +85,9 @@ places-hold-spec =
     mul-big2
     add-big2-2
     big2-requires
-    size16-requires
-    shared-slice-read-wide-size
-    wide-size-requires-2
+    wide-16-requires
+    shared-slice-read-wide32
+    wide32-requires
     add-if1
     loop-less
     loop-again
