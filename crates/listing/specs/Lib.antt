@@ -3,8 +3,5 @@
 pub mod Steps
 -- page
 pub mod Page
--- how many records sheet lists, and that a page with room for just these writes them
-pub mod Count
-pub mod Second
 -- page's answer, and what it leaves in the output, for every input
 pub mod Answers

@@ -1,4 +1,3 @@
-// Listing from a cursor on (document 01, "Reading through an index"): page, and sheet's two passes.
+// Listing from a cursor on (document 01, "Reading through an index"): page.
 pub mod calls;
-pub mod count;
 pub mod page;

@@ -1,10 +1,10 @@
 // The call sheet: it tests the frames, the prefix and every place that it follows, and writes only once it is sure.
 use crate::bounds::high_key;
 use crate::bounds::low_key;
+use counting::count_from;
 use index::frame::IndexFrame;
 use index::frame::index_frame;
 use index::select::head_of;
-use listing::count::count_from;
 use listing::page::Stop;
 use listing::page::page_from;
 use refusal::Refusal;

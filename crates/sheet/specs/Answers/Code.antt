@@ -37,11 +37,11 @@ use Rattle.walk.specs.Code.Inside.{seek-inside}
 use Rattle.listing.specs.declared.page.Stop.{Stop}
 use Rattle.listing.specs.declared.page.Stop.the-variants.{More, End, Lost as StopLost}
 use Rattle.listing.specs.declared.page.Paged.{Paged}
-use Rattle.listing.specs.declared.count.Counted.{Counted}
+use Rattle.counting.specs.declared.Counted.{Counted}
 use Rattle.listing.specs.Page.{begun, pagedOf}
-use Rattle.listing.specs.Count.{lengths, countedAs, countedOf}
-use Rattle.listing.specs.Count.Code.{counted-stayed, counted-ended, counted-lost}
-use Rattle.listing.specs.Second.{second-listed}
+use Rattle.counting.specs.Count.{lengths, countedAs, countedOf}
+use Rattle.counting.specs.Count.Code.{counted-stayed, counted-ended, counted-lost}
+use Rattle.counting.specs.Second.{second-listed}
 use Rattle.sheet.specs.declared.calls.SheetAnswer.{SheetAnswer}
 use Rattle.sheet.specs.declared.calls.SheetAnswer.the-variants.{Listed, Refused}
 use Rattle.sheet.specs.Answers.{prefixLong, prefixLast, listedIn, sheetTold, recordsOf, sheetFramed, sheetLeaves}

@@ -24,9 +24,9 @@ use Rattle.walk.specs.Reads.{unmarked, recordBy, sheetVisit}
 use Rattle.walk.specs.Code.{placed, numbers, Walking}
 use Rattle.walk.specs.Code.Load.{loadedFrom}
 use Rattle.walk.specs.Code.Turns.{Here, place-is, here-enter}
 use Rattle.listing.specs.Steps.{spotAt, onward, here-first, here-inner, here-back, here-pass, here-go}
 use Rattle.listing.specs.Steps.Maps.{mapVisit, mapWalked, walk-map}
-use Rattle.listing.specs.Count.{lengths}
+use Rattle.counting.specs.Count.{lengths}
 
 -- sheet's walk in numbers
 unfoldable pub tallyVisit : List ℕ → ℕ → ℕ → Spot → ℕ → Visit ℕ ℕ

@@ -1,4 +1,4 @@
--- `listing::count::count_from` meets its contract. Invariant of both loops: the count from here on answers for the count from where the loop
+-- `counting::count_from` meets its contract. Invariant of both loops: the count from here on answers for the count from where the loop
 -- began, and at most one record a selector was counted. Measures: the selectors left, the segments left. Assumes nothing.
 use mathlib.Core.Path.{_≡_, refl, sym, _∙_}
 use Prim.Native.Nat.{_-_}
@@ -7,13 +7,13 @@ use mathlib.Core.List.{[]}
 use Rattle.walk.specs.Code.{spotOf}
 use Rattle.walk.specs.Code.Seek.{stays-run, stays-place}
 use Rattle.walk.specs.Code.Turns.{within, selector-is, here-end}
 use Rattle.listing.specs.Steps.{onward-from, here-no-run, here-no-place, here-stay}
-use Rattle.listing.specs.Count.{countedAs}
-use Rattle.listing.specs.Count.Code.{tallyVisit, tally-is, visit-bound, Counting, counting-first, counting-inner, counting-back, counting-most, counting-enter, counting-pass, counting-marked, counting-below}
+use Rattle.counting.specs.Count.{countedAs}
+use Rattle.counting.specs.Count.Code.{tallyVisit, tally-is, visit-bound, Counting, counting-first, counting-inner, counting-back, counting-most, counting-enter, counting-pass, counting-marked, counting-below}
 use native.Mathlib.Omega.{arith}
 use borrow.Author.Needs.{needs}
-use Rattle.listing.proofs.count.count_from.Statement.{statement}
-use Rattle.listing.proofs.count.count_from.Tie as tie
+use Rattle.counting.proofs.count_from.Statement.{statement}
+use Rattle.counting.proofs.count_from.Tie as tie
 
 abbrev Inv-loop : tie.InvT-loop
 Inv-loop t x h d n counts starts high count₀ g size s₀ places₀ first count s places = Counting t x high d n g s₀ places₀ count₀ g s places count

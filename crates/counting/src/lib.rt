@@ -1,8 +1,8 @@
 // How many records sheet lists: the walk of its first pass, which writes nothing.
-use crate::page::Stop;
 use index::SegmentNo;
 use index::frame::segment_at;
 use index::select::head_of;
+use listing::page::Stop;
 use number::wide_size;
 use tray::Place;
 use tray::RunNo;
@@ -15,7 +15,7 @@ ghost use Rattle.tray.specs.Frame.{Starts};
 ghost use Rattle.walk.specs.Walk.{walkFrom};
 ghost use Rattle.walk.specs.Reads.{sheetVisit};
 ghost use Rattle.walk.specs.Code.{Walking, spotOf};
-ghost use Rattle.listing.specs.Count.{lengths, countedAs, countedOf};
+ghost use Rattle.counting.specs.Count.{lengths, countedAs, countedOf};
 
 // The end of a count: where the walk stopped, and how many records it passed that are to be listed.
 pub struct Counted {

@@ -5,9 +5,9 @@ use mathlib.Core.List.{List}
 use lib.ListN.{length}
 use Rattle.theory.specs.Records.{Record}
 use Rattle.walk.specs.Walk.{Walked, stayed, ended, lost}
 use Rattle.listing.specs.declared.page.Stop.{Stop}
 use Rattle.listing.specs.declared.page.Stop.the-variants.{More, End, Lost}
-use Rattle.listing.specs.declared.count.Counted.{Counted}
+use Rattle.counting.specs.declared.Counted.{Counted}
 
 -- how many records a walk came to
 unfoldable pub lengths : Walked (List Record) (List Record) → Walked ℕ ℕ
