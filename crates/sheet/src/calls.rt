@@ -157,7 +157,8 @@ fn sheet_framed(
     sheet_between(t, x, f, d, n, low_key(prefix), high_key(prefix), out)
 }
 
-// Sheet: the records whose key begins with a prefix, 24 bytes each; refusals 1, 4, 8, 9, 10, 7. After a refusal the output is as it was.
+// Sheet: each record where the walk stays from a prefix on, until the first key past it, 24 bytes each; refusals 1, 4, 8, 9, 10, 7. After a
+// refusal the output is as it was.
 pub fn sheet(t: &[u8], x: &[u8], prefix: &[u8], out: &mut [u8]) -> SheetAnswer
     ensures { λ r. ⌜ r ≡ sheetAnswer (now (t .entry)) (now (x .entry)) (now (prefix .entry)) (length (now (out .entry))) ⌝ }
     ensures { λ r. ⌜ now (out .exit) ≡ sheetLeaves (now (t .entry)) (now (x .entry)) (now (prefix .entry)) (now (out .entry)) r ⌝ }
