@@ -5,16 +5,15 @@ pub mod Draws
 pub mod Keeping
 pub mod Left
 pub mod Moves
-pub mod Raised
 pub mod Start
 pub mod Step
-use Prim.Native.Nat.{ℕ, suc, _+_, _-_, _*_, _≤_, _<_}
+use Prim.Native.Nat.{ℕ, zero, suc, _+_, _-_, _*_, _≤_, _<_}
 use mathlib.Core.Path.{_≡_}
-use mathlib.Core.Bool.{Bool, true, false, cond, _&&_}
-use mathlib.Core.List.{List, [], _∷_, map}
+use mathlib.Core.Bool.{cond}
+use mathlib.Core.List.{List, map}
 use lib.ListN.{length, getD, take, drop, set}
-use lib.Dec.{eqb, ltb}
-use Rattle.theory.specs.Rising.{All}
+use lib.Dec.{eqb, ltb, leb}
+use Rattle.theory.specs.Rising.{All, keep}
 use Rattle.theory.specs.Records.{Record}
 use Rattle.theory.specs.Hiding.{sameKey}
 use Rattle.theory.specs.Listed.{listed}
@@ -25,9 +24,6 @@ use Rattle.tray.specs.Run.{recordFrom}
 use Rattle.tray.specs.Check.{Sound}
 use Rattle.tray.specs.Meaning.Laws.{runIn}
 use Rattle.index.specs.Rules.{keyOf}
-use Rattle.index.specs.Scan.{nextIn, hasNext, raise}
-use Rattle.heads.specs.Heads.{runsTo}
-use Rattle.heads.specs.Heads.Leads.{LeastKey}
 
 -- the runs a to b of a tray made one
 unfoldable pub mergedRun : ℕ → ℕ → List (List Record) → List Record
@@ -41,19 +37,22 @@ leftOf t places r = drop (getD places r 0) (runIn t r)
 unfoldable pub mergeLeft : List ℕ → List ℕ → List Record
 mergeLeft t places = merged keyOf (sameKey keyOf) (listed (runCount t) 0 (leftOf t places))
 
--- the runs whose next record has key m
-unfoldable pub drawn : List ℕ → ℕ → List ℕ → ℕ → List ℕ
-drawn t h places m = runsTo (λ r. hasNext t places r && eqb (nextIn t places r .key) m) h
+-- the records of a list from key m on
+unfoldable pub fromKey : ℕ → List Record → List Record
+fromKey m xs = keep (λ e. leb m (keyOf e)) xs
 
--- these runs have next records, one after the other
-pub data Takeable (t : List ℕ) : List ℕ → List ℕ → Type 0 where
-  none : {places : List ℕ} → Takeable t places []
-  more : {places : List ℕ} {r : ℕ} {rs : List ℕ} → r < runCount t → getD places r 0 < countOf t r → Takeable t (raise places r) rs → Takeable t places (r ∷ rs)
+-- what is left of all runs from key m on, made one
+unfoldable pub mergeFrom : List ℕ → ℕ → List ℕ → List Record
+mergeFrom t m places = merged keyOf (sameKey keyOf) (listed (runCount t) 0 (λ r. fromKey m (leftOf t places r)))
 
--- one record of each of these runs has been read
-unfoldable pub raiseAll : List ℕ → List ℕ → List ℕ
-raiseAll [] places = places
-raiseAll (r ∷ rs) places = raiseAll rs (raise places r)
+-- the lowest new key after n records of which the last has key `last`
+unfoldable pub newFrom : ℕ → ℕ → ℕ
+newFrom n last = cond (eqb n 0) 0 (suc last)
+
+-- how many records the first n runs have left
+unfoldable pub leftTo : List ℕ → List ℕ → ℕ → ℕ
+leftTo t places zero = 0
+leftTo t places (suc r) = leftTo t places r + (countOf t r - getD places r 0)
 
 -- the runs from h on have been read to their ends
 pub record Ended (t places : List ℕ) (h : ℕ) : Type 0 where
@@ -74,12 +73,6 @@ pub record Skips (counts places : List ℕ) (from to : ℕ) (places′ : List �
   pub read : (r : ℕ) → from ≤ r → r < to → getD places′ r 0 ≡ getD counts r 0
   pub below : (r : ℕ) → r < from → getD places′ r 0 ≡ getD places r 0
   pub behind : (r : ℕ) → to ≤ r → getD places′ r 0 ≡ getD places r 0
-
--- the next record of the merge is noted as number n and its key's runs move on, or none is left
-pub data Keeps (t : List ℕ) (h : ℕ) (places kept : List ℕ) (n : ℕ) : List ℕ → List ℕ → Bool → Type 0 where
-  ends : (m : ℕ) → LeastKey t h places m → drawn t h places m ≡ [] → Keeps t h places kept n places kept false
-  keeps : (m q : ℕ) (qs : List ℕ) → LeastKey t h places m → drawn t h places m ≡ q ∷ qs
-      → Keeps t h places kept n (raiseAll (q ∷ qs) places) (noted kept n (nextAt t places q)) true
 
 -- the records w of a tray have been counted, and the first 4,096 of them noted
 pub record Noted (t : List ℕ) (w : List Record) (kept : List ℕ) (n : ℕ) : Type 0 where

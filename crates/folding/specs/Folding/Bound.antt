@@ -1,86 +1,76 @@
--- Where the runs from h on have been read to their ends, the first h of the kept keys tell all.
---     padded-to, left-to         what the heads ask of them
---     least-to, drew-to          the least key, and the runs that have it, of h runs and of all
---     ended-more                 the runs from h on stay at their ends
+-- Where the runs from h on have been read to their ends, the first h tell which run of all comes next.
+--     next-to, none-to     the run that is chosen comes next, and where none is, none does
+--     ended-more           the runs from h on stay at their ends
 -- Assumes nothing.
 use mathlib.Core.Path.{_≡_, refl, sym, ap, _∙_}
-use Prim.Native.Nat.{ℕ, zero, suc, _+_, _-_, _≤_, _<_}
-use native.Mathlib.Nat.{add-zero, add-suc}
+use Prim.Native.Nat.{ℕ, _+_, _≤_, _<_}
 use native.Mathlib.Omega.{arith}
-use mathlib.Core.Bool.{Bool, false, _&&_}
-use mathlib.Core.List.{List, [], _∷_, append-nil}
+use mathlib.Core.List.{List}
 use lib.ListN.{length, getD, set}
 use lib.Seq.{getD-set-same, getD-set-other, set-out}
-use lib.Dec.{eqb, ltb}
+use lib.Dec.{ltb}
 use borrow.Author.Tests.{le-ltb, ltb-true, ltb-false}
 use Rattle.theory.specs.Tests.{cases, order}
 use Rattle.tray.specs.Frame.{runCount, countOf}
 use Rattle.index.specs.Scan.{raise}
-use Rattle.heads.specs.Heads.{highest, Padded, Caching, Least, Left, runsTo, keyedLeft, Drew}
-use Rattle.folding.specs.Folding.{raiseAll, Ended, Keeps, ends, keeps}
-use Rattle.folding.specs.Folding.Draws.{left-of}
-use Rattle.folding.specs.Folding.Left.{end-key}
+use Rattle.heads.specs.Heads.{highest, keyOr, nextKey}
+use Rattle.heads.specs.Heads.Leads.{Ahead, one, all, Heading, Chosen, keyed, left, NextRun, NoRun}
+use Rattle.heads.specs.Heads.Leads.Next.{next-run, next-none}
+use Rattle.folding.specs.Folding.{Ended}
 
--- runs that fail a test are not among those that pass it
-runsTo-end : (test : ℕ → Bool) (h n : ℕ) → ((r : ℕ) → h ≤ r → r < h + n → test r ≡ false) → runsTo test (h + n) ≡ runsTo test h
-unfolding runsTo
-runsTo-end test h zero f = rw add-zero
-runsTo-end test h (suc n) f =
-    let last : test (h + n) ≡ false = f (h + n) (omega arith) (omega arith) in
-    rw (add-suc, last, append-nil) (runsTo-end test h n (λ r l u. f r l (omega arith)))
+-- the key that is kept of a run at its end
+end-key : (t places : List ℕ) (r : ℕ) → countOf t r ≤ getD places r 0 → nextKey t places r ≡ highest
+unfolding nextKey keyOr
+end-key t places r l = rw (le-ltb (getD places r 0) (countOf t r) l)
 
--- a test of two parts of which the second fails
-and-false : (a : Bool) {b : Bool} → b ≡ false → (a && b) ≡ false
-and-false a e = rw e (cases a (λ y. rw y) (λ n. rw n))
+module _ {t counts starts places keys nexts tops firsts : List ℕ} {h k run : ℕ} (g : Heading t counts starts places keys nexts tops firsts) (e : Ended t places h)
+    (high : k ≤ highest) (a : Ahead tops firsts h k run) where
+  -- from h on the highest number is kept,
+  past-key : (i : ℕ) → h ≤ i → i < 64 → getD keys i 0 ≡ highest
+  past-key i l m =
+      cases (ltb i (runCount t))
+      (λ y. let u = ltb-true _ _ y in g .caching .keys-are i u ∙ end-key t places i (e .ended i l u))
+      (λ n. g .caching .padded .past i (ltb-false _ _ n) m)
 
-module _ {t counts starts places keys : List ℕ} {h : ℕ} (g : Caching t counts starts places keys) (e : Ended t places h) where
-  -- what is kept of a run at its end
-  past-key : (r : ℕ) → h ≤ r → r < runCount t → getD keys r 0 ≡ highest
-  past-key r l k = g .keys-are r k ∙ end-key t places r (le-ltb _ _ (e .ended r l k))
-
-  pub padded-to : Padded keys h
-  padded-to =
-      let most : h ≤ runCount t = e .most in
-      record {
-        few = omega (arith, g .padded .few);
-        room = g .padded .room;
-        past = λ i l k. cases (ltb i (runCount t)) (λ y. past-key i l (ltb-true _ _ y)) (λ n. g .padded .past i (ltb-false _ _ n) k);
-      }
-
-  pub left-to : Left keys counts places h
-  left-to =
-      let all = left-of g refl in
-      let most : h ≤ runCount t = e .most in
-      record {
-        few = omega (arith, all .few);
-        room-keys = all .room-keys;
-        room-counts = all .room-counts;
-        room-places = all .room-places;
-        left = λ i l k. all .left i (omega arith) k;
-      }
-
-  pub least-to : {m : ℕ} → m ≤ highest → Least keys h m → Least keys (runCount t) m
-  least-to {m} high w =
-      let most : h ≤ runCount t = e .most in
-      record {
-        low = λ i l. cases (ltb i h) (λ y. w .low i (ltb-true _ _ y)) (λ n. let k : getD keys i 0 ≡ highest = past-key i (ltb-false _ _ n) l in omega arith);
-        got = λ l. let k = w .got l in (k .0, omega (arith, k .1), k .2);
-      }
-
-  pub drew-to : (m : ℕ) {n : ℕ} {group : List ℕ} → Drew (keyedLeft keys counts places m) h n group → Drew (keyedLeft keys counts places m) (runCount t) n group
-  drew-to m w =
-      let most : h ≤ runCount t = e .most in
-      let whole : h + (runCount t - h) ≡ runCount t = omega arith in
-      let same : runsTo (keyedLeft keys counts places m) (runCount t) ≡ runsTo (keyedLeft keys counts places m) h =
-      ap (runsTo (keyedLeft keys counts places m)) (sym whole)
-      ∙ runsTo-end (keyedLeft keys counts places m) h (runCount t - h) (λ r l u. past-test r l (omega arith)) in
-      record { number = w .number ∙ ap length (sym same); runs = w .runs ∙ sym same }
+  -- so the first of the blocks that h runs have is the first of all
+  ahead-all : Ahead tops firsts (runCount t) k run
+  ahead-all = go a
     where
-      past-test : (r : ℕ) → h ≤ r → r < runCount t → keyedLeft keys counts places m r ≡ false
-      past-test r l k =
-          let count : getD counts r 0 ≡ countOf t r = g .reading .counts-are r k in
-          let done : countOf t r ≤ getD places r 0 = e .ended r l k in
-          and-false (eqb (getD keys r 0) m) (le-ltb (getD places r 0) (getD counts r 0) (omega arith))
+      past-top : h ≤ 8 → (b : ℕ) → 1 ≤ b → b < 8 → getD tops b 0 ≡ highest
+      past-top l b p q =
+          let w = g .leading .are b q in
+          sym (w .here) ∙ past-key (getD firsts b 0) (omega (arith, w .from)) (omega (arith, w .below))
+
+      go : Ahead tops firsts h k run → Ahead tops firsts (runCount t) k run
+      go (all l s) = all (g .caching .reading .few) s
+      go (one l s) =
+          all (g .caching .reading .few)
+          (record {
+            block = s .block;
+            first = record {
+              from = s .first .from;
+              below = omega (arith, s .first .below);
+              here = s .first .here;
+              low = λ i p q. cases (ltb i 1) (λ y. s .first .low i p (ltb-true _ _ y)) (λ n. omega (arith, past-top l i (ltb-false _ _ n) q));
+              before = s .first .before;
+            };
+            run = s .run;
+          })
+
+  pub next-to : {r : ℕ} → Chosen counts places h k run r → r < h → NextRun t (runCount t) places r k
+  next-to (keyed m) l = next-run g refl ahead-all (keyed m) (omega (arith, e .most))
+  next-to (left m f) l =
+      next-run g refl ahead-all (left m (record { most = omega (arith, e .most); left = λ u. f .left l; before = f .before })) (omega (arith, e .most))
+
+  pub none-to : {r : ℕ} → Chosen counts places h k run r → h ≤ r → NoRun t (runCount t) places
+  none-to (keyed m) l =
+      cases (ltb run (runCount t))
+      (λ y. let u = ltb-true _ _ y in absurd (omega (arith, next-run g refl ahead-all (keyed m) u .has, e .ended run l u)))
+      (λ n. next-none g refl ahead-all (keyed m) (ltb-false _ _ n))
+  none-to (left m f) l =
+      λ i u. cases (ltb i h)
+      (λ y. omega (arith, ltb-true i h y, f .before i (omega (arith, ltb-true i h y)), g .caching .reading .counts-are i u))
+      (λ n. e .ended i (ltb-false _ _ n) u)
 
 -- places only rise
 raise-up : (places : List ℕ) (q r : ℕ) → getD places r 0 ≤ getD (raise places q) r 0
@@ -94,13 +84,6 @@ raise-up places q r =
     (λ n. let k : getD (set places q (getD places q 0 + 1)) r 0 ≡ getD places r 0 =
     ap (λ (s : List ℕ). getD s r 0) (set-out places q (getD places q 0 + 1) (ltb-false _ _ n)) in omega arith)
 
-raiseAll-up : (rs places : List ℕ) (r : ℕ) → getD places r 0 ≤ getD (raiseAll rs places) r 0
-unfolding raiseAll
-raiseAll-up [] places r = omega arith
-raiseAll-up (q ∷ rs) places r = omega (arith, raise-up places q r, raiseAll-up rs (raise places q) r)
-
-pub ended-more : {t places kept places′ kept′ : List ℕ} {h k n : ℕ} {more-left : Bool} → Ended t places h
-    → Keeps t k places kept n places′ kept′ more-left → Ended t places′ h
-ended-more e (ends m low none) = e
-ended-more {t} {places} e (keeps m q qs low drawn-is) =
-    record { most = e .most; ended = λ r l u. omega (arith, e .ended r l u, raiseAll-up (q ∷ qs) places r) }
+pub ended-more : {t places places′ : List ℕ} {h : ℕ} (r : ℕ) → Ended t places h → places′ ≡ raise places r → Ended t places′ h
+ended-more {t} {places} {places′} r e p =
+    record { most = e .most; ended = λ i l u. rw p (omega (arith, e .ended i l u, raise-up places r i)) }

@@ -1,24 +1,24 @@
 -- What the code of the merge needs: each law is a way out of a function, or a turn of its loop.
---     noted-room, noted-full                        a record noted
---     keeps-one, keeps-none, first-has              the next record of the merge
+--     noted-room, noted-full, noted-at              a record noted
+--     fresh-first, fresh-new, fresh-old             whether its key is new
 --     start-low, stands-at, record-in               where it stands in the tray
---     Merging, merging-none, -more, -end, -low      the records so far
+--     Merging, merging-none, -more, -less, -end, -low     the records so far
 -- Assumes nothing.
 use mathlib.Core.Path.{_≡_, refl, sym, ap, _∙_, subst}
-use mathlib.Core.Logic.{_⊎_, ⊎-elim}
+use mathlib.Core.Logic.{⊎-elim}
 use Prim.Native.Nat.{ℕ, zero, suc, _+_, _-_, _*_, _≤_, _<_}
-use native.Mathlib.Nat.{add-assoc}
+use native.Mathlib.Nat.{add-assoc, add-zero}
 use native.Mathlib.Numerals.{add-one}
 use native.Mathlib.Omega.{arith}
-use mathlib.Core.Bool.{Bool, true, false}
+use mathlib.Core.Bool.{false, cond}
 use mathlib.Core.List.{List, [], _∷_, _++_, map, map-append, append-assoc, append-nil, List·Memᴰ·append-cases, List·Memᴰ·eq-of-singleton, Memᴰ·append-left}
 use lib.ListN.{length, getD, take, drop, set, length-set, length-append, length-map, take-append-drop}
-use lib.Seq.{getD-take, getD-drop, take-suc-set, take-all, take-append-le}
-use lib.Dec.{ltb}
-use borrow.Author.Tests.{lt-ltb, le-ltb, ltb-true, ltb-false}
+use lib.Seq.{getD-take, getD-drop, take-suc-set, take-set-le, take-all, take-append-le}
+use lib.Dec.{eqb, ltb}
+use borrow.Author.Tests.{lt-ltb, le-ltb, ltb-true, ltb-false, eq-eqb, ne-eqb}
 use Rattle.number.specs.Big.Laws.{be-part}
-use Rattle.theory.specs.Tests.{cases, never}
-use Rattle.theory.specs.Lists.{here, all-nil}
+use Rattle.theory.specs.Tests.{cases}
+use Rattle.theory.specs.Lists.{all-nil}
 use Rattle.theory.specs.Rising.{Mem, All}
 use Rattle.theory.specs.Records.{Record}
 use Rattle.tray.specs.Frame.{runCount, countOf, recordsBefore, startOf, runBytes, Framed}
@@ -26,13 +26,11 @@ use Rattle.tray.specs.Frame.Laws.{startOf-next, startOf-within}
 use Rattle.tray.specs.Run.{recordFrom, recordAt}
 use Rattle.tray.specs.Check.{Sound}
 use Rattle.tray.specs.Meaning.{runsOf, Fits}
-use Rattle.index.specs.Scan.{nextIn}
+use Rattle.index.specs.Scan.{nextIn, raise}
 use Rattle.index.specs.Scan.Code.{Reading}
-use Rattle.heads.specs.Heads.{Caching, Least, Drew, keyedLeft}
-use Rattle.folding.specs.Folding.{mergeLeft, drawn, raiseAll, nextAt, noted, Keeps, ends, keeps, Noted}
-use Rattle.folding.specs.Folding.Draws.{drawn-mem, drawn-is, drawn-number, least-key, group-next}
-use Rattle.folding.specs.Folding.Left.{merge-step, merge-end}
-use Rattle.folding.specs.Folding.Raised.{length-raiseAll}
+use Rattle.heads.specs.Heads.Leads.{NextRun, NoRun}
+use Rattle.folding.specs.Folding.{mergeLeft, mergeFrom, newFrom, leftTo, nextAt, noted, Noted}
+use Rattle.folding.specs.Folding.Left.{next-key, merge-next, merge-pass, merge-end, merge-all, next-low, left-less}
 
 pub noted-room : (kept : List ℕ) (n at : ℕ) → n < 4096 → set kept n at ≡ noted kept n at
 unfolding noted
@@ -47,31 +45,22 @@ length-noted kept n at =
     cases (ltb n 4096) (λ y. ap length (sym (noted-room kept n at (ltb-true _ _ y))) ∙ length-set kept n at)
     (λ f. ap length (sym (noted-full kept n at (ltb-false _ _ f))))
 
--- the runs of the least key, as the code draws them
-module _ {t counts starts places keys group : List ℕ} {h m g : ℕ} (cached : Caching t counts starts places keys) (runs : h ≡ runCount t) (low : Least keys h m)
-    (w : Drew (keyedLeft keys counts places m) h g group) where
-  drawn-first : 0 < g → g ≤ length group → drawn t h places m ≡ getD group 0 0 ∷ drop 1 (take g group)
-  drawn-first l k = sym (drawn-is cached runs m w) ∙ group-next group {n = g} {j = 0} k l
+-- the same number, as the code computes it
+pub noted-at : {kept′ : List ℕ} (kept : List ℕ) (n : ℕ) {at at′ : ℕ} → at ≡ at′ → kept′ ≡ noted kept n at → kept′ ≡ noted kept n at′
+noted-at kept n e q = q ∙ ap (noted kept n) e
 
-  pub keeps-one : {places′ kept′ : List ℕ} (kept : List ℕ) (n : ℕ) {at : ℕ} → 0 < g → g ≤ length group → at ≡ nextAt t places (getD group 0 0)
-      → kept′ ≡ noted kept n at → places′ ≡ raiseAll (take g group) places → Keeps t h places kept n places′ kept′ true
-  keeps-one {places′} {kept′} kept n l k e p q =
-      let first = drawn-first l k in
-      let moved : places′ ≡ raiseAll (getD group 0 0 ∷ drop 1 (take g group)) places = q ∙ ap (λ (rs : List ℕ). raiseAll rs places) (group-next group {n = g} {j = 0} k l) in
-      let held : kept′ ≡ noted kept n (nextAt t places (getD group 0 0)) = p ∙ ap (noted kept n) e in
-      rw (moved, held) (keeps m (getD group 0 0) (drop 1 (take g group)) (least-key cached runs low) first)
+-- whether a key is new
+pub fresh-first : {n : ℕ} (last k : ℕ) → n ≡ 0 → _≡_ {A = ℕ} 1 (cond (ltb k (newFrom n last)) 0 1)
+unfolding newFrom
+fresh-first {n} last k e = rw (eq-eqb n 0 e) (rw (le-ltb k 0 (omega arith)))
 
-  pub keeps-none : (kept : List ℕ) (n : ℕ) → g ≤ 0 → Keeps t h places kept n places kept false
-  keeps-none kept n l = ends m (least-key cached runs low) (empty (drawn t h places m) (omega (arith, drawn-number cached runs m w)))
-    where
-      empty : (xs : List ℕ) → length xs ≤ 0 → xs ≡ []
-      empty [] z = refl
-      empty (x ∷ xs) z = absurd (omega arith)
+pub fresh-new : {n last k : ℕ} → (n ≡ 0 → ⊥) → last < k → _≡_ {A = ℕ} 1 (cond (ltb k (newFrom n last)) 0 1)
+unfolding newFrom
+fresh-new {n} {last} {k} d l = rw (ne-eqb n 0 d) (rw (le-ltb k (suc last) l))
 
-  pub first-has : 0 < g → g ≤ length group → (getD group 0 0 < runCount t) × (getD places (getD group 0 0) 0 < countOf t (getD group 0 0))
-  first-has l k =
-      let d = drawn-mem t h places m {r = getD group 0 0} (rw (drawn-first l k) here) in
-      (omega (arith, d .0), d .1)
+pub fresh-old : {n last k : ℕ} → (n ≡ 0 → ⊥) → k ≤ last → _≡_ {A = ℕ} 0 (cond (ltb k (newFrom n last)) 0 1)
+unfolding newFrom
+fresh-old {n} {last} {k} d l = rw (ne-eqb n 0 d) (rw (lt-ltb k (suc last) (omega arith)))
 
 -- how many records stand before a run, at most
 before-low : {t : List ℕ} → Framed t → (r : ℕ) → r ≤ runCount t → recordsBefore t r ≤ 4096 * r
@@ -132,60 +121,107 @@ noted-are kept done {n} at e k are =
     rw (sym (noted-full kept n at l), take-append-le 4096 done (at ∷ []) (omega arith), sym are)
     (take-all (n + 1) kept (omega arith) ∙ sym (take-all n kept (omega arith))))
 
--- n records have been counted and the first 4,096 of them noted, and with the merge of what is left they are w
-pub record Merging (t : List ℕ) (w : List Record) (places kept : List ℕ) (n : ℕ) : Type 0 where
+-- a number noted there leaves the others
+noted-low : (kept : List ℕ) (n at : ℕ) → take n (noted kept n at) ≡ take n kept
+noted-low kept n at =
+    cases (ltb n 4096) (λ y. rw (sym (noted-room kept n at (ltb-true _ _ y))) (take-set-le n kept n at (omega arith)))
+    (λ f. rw (sym (noted-full kept n at (ltb-false _ _ f))))
+
+-- n records have been counted and the first 4,096 of them noted, and with the merge of what is left from the next key on they are w
+pub record Merging (t : List ℕ) (w : List Record) (places kept : List ℕ) (n last : ℕ) : Type 0 where
   pub done : List ℕ
   pub number : n ≡ length done
   pub are : take n kept ≡ take 4096 done
-  pub whole : map (recordFrom t) done ++ mergeLeft t places ≡ w
+  pub whole : map (recordFrom t) done ++ mergeFrom t (newFrom n last) places ≡ w
   pub inside : All (λ at. at + 25 ≤ length t) done
   pub room : length kept ≡ 4096
   pub places-room : length places ≡ 63
+  pub low : (i : ℕ) → i < runCount t → getD places i 0 < countOf t i → last ≤ nextIn t places i .key
 
 module _ {t : List ℕ} {w : List Record} where
-  pub merging-none : {places kept : List ℕ} → mergeLeft t places ≡ w → length kept ≡ 4096 → length places ≡ 63 → Merging t w places kept 0
-  merging-none e k p = record { done = []; number = refl; are = refl; whole = e; inside = all-nil _; room = k; places-room = p }
+  pub merging-none : {places kept : List ℕ} → mergeLeft t places ≡ w → length kept ≡ 4096 → length places ≡ 63 → Merging t w places kept 0 0
+  unfolding newFrom
+  merging-none {places} e k p =
+      record { done = []; number = refl; are = refl; whole = merge-all t places ∙ e; inside = all-nil _; room = k; places-room = p; low = λ i l h. omega arith }
 
-  -- the next record is noted
-  module _ {h : ℕ} {places kept : List ℕ} {n : ℕ} (s : Sound t) (runs : h ≡ runCount t) (g : Merging t w places kept n) where
-    pub merging-more : {places′ kept′ : List ℕ} {more-left : Bool} → Keeps t h places kept n places′ kept′ more-left → more-left ≡ true
-        → Merging t w places′ kept′ (n + 1) × (length (mergeLeft t places) ≡ suc (length (mergeLeft t places′)))
-    unfolding nextAt nextIn
-    merging-more (ends m low e) y = never (cc)
-    merging-more (keeps m q qs low e) y =
-        let d = drawn-mem t h places m {r = q} (rw e here) in
-        let step = merge-step s (g .places-room) runs low e in
-        let up : startOf t (suc q) ≡ startOf t q + 25 * countOf t q = startOf-next t q in
-        let in-tray : startOf t (suc q) ≤ length t = startOf-within t (s .frame) (suc q) (omega (arith, d .0)) in
-        let fits : startOf t q + 25 * getD places q 0 + 25 ≤ length t = omega (arith, d .1) in (
-          record {
-            done = g .done ++ (nextAt t places q ∷ []);
-            number = simp length-append (ap (λ (k : ℕ). k + 1) (g .number));
-            are = noted-are kept (g .done) (nextAt t places q) (g .number) (g .room) (g .are);
-            whole = rw (map-append, append-assoc, record-in t q (getD places q 0) (d .1)) (rw step at (g .whole));
-            inside = λ at i. ⊎-elim (λ k. g .inside at k) (λ k. subst (λ (o : ℕ). o + 25 ≤ length t) (sym (List·Memᴰ·eq-of-singleton k)) fits) (List·Memᴰ·append-cases (g .done) i);
-            room = length-noted kept n (nextAt t places q) ∙ g .room;
-            places-room = length-raiseAll (q ∷ qs) places ∙ g .places-room;
-          },
-          ap length step,
-        )
+  -- the record of the run that comes next is taken
+  module _ {places kept : List ℕ} {n last r k : ℕ} (s : Sound t) (fits : Fits (runsOf t)) (g : Merging t w places kept n last) (next : NextRun t (runCount t) places r k) where
+    here-room : r < length places
+    here-room = omega (arith, g .places-room, next .run, s .frame .most-runs)
 
-    -- nothing is left
-    pub merging-end : {places′ kept′ : List ℕ} {more-left : Bool} → Fits (runsOf t) → Keeps t h places kept n places′ kept′ more-left → more-left ≡ false → Noted t w kept′ n
-    merging-end fits (keeps m q qs low e) y = never (cc)
-    merging-end fits (ends m low e) y =
-        let none-left = merge-end s (g .places-room) runs low fits e in
-        let all : map (recordFrom t) (g .done) ≡ w = rw (none-left, append-nil) at (g .whole) in
+    key-is : nextIn t places r .key ≡ k
+    key-is = next-key fits next
+
+    raise-room : length (raise places r) ≡ 63
+    unfolding raise
+    raise-room = length-set places r (getD places r 0 + 1) ∙ g .places-room
+
+    -- its key is new
+    more-new : newFrom n last ≤ k → Merging t w (raise places r) (noted kept n (nextAt t places r)) (n + 1) k
+    unfolding nextAt nextIn newFrom
+    more-new l =
+        let step = merge-next s fits next l ∙ ap (λ xs. nextIn t places r ∷ xs) (merge-pass t places here-room {m = suc k} (next .has) (omega (arith, key-is))) in
+        let up : startOf t (suc r) ≡ startOf t r + 25 * countOf t r = startOf-next t r in
+        let in-tray : startOf t (suc r) ≤ length t = startOf-within t (s .frame) (suc r) (next .run) in
+        let there : startOf t r + 25 * getD places r 0 + 25 ≤ length t = omega (arith, next .has) in
+        let some : eqb (n + 1) 0 ≡ false = ne-eqb (n + 1) 0 (λ e. omega arith) in
         record {
-          number = g .number ∙ sym (length-map (g .done) (recordFrom t)) ∙ ap length all;
-          room = g .room;
-          inside = λ at i. g .inside at (take-mem 4096 (g .done) (rw (g .are) at i));
-          are = λ l. ap (map (recordFrom t)) (g .are ∙ take-all 4096 (g .done) (omega (arith, g .number))) ∙ all;
+          done = g .done ++ (nextAt t places r ∷ []);
+          number = simp length-append (ap (λ (j : ℕ). j + 1) (g .number));
+          are = noted-are kept (g .done) (nextAt t places r) (g .number) (g .room) (g .are);
+          whole = rw (some, map-append, append-assoc, record-in t r (getD places r 0) (next .has)) (rw step at (g .whole));
+          inside = λ at i. ⊎-elim (λ j. g .inside at j) (λ j. subst (λ (o : ℕ). o + 25 ≤ length t) (sym (List·Memᴰ·eq-of-singleton j)) there) (List·Memᴰ·append-cases (g .done) i);
+          room = length-noted kept n (nextAt t places r) ∙ g .room;
+          places-room = raise-room;
+          low = next-low t places here-room s next key-is;
         }
 
+    -- it is older than the last one
+    more-old : k < newFrom n last → Merging t w (raise places r) (noted kept n (nextAt t places r)) n k
+    unfolding newFrom
+    more-old l =
+        let some : eqb n 0 ≡ false = cases (eqb n 0) (λ y. absurd (omega (arith, rw y at l))) (λ f. f) in
+        let same : k ≡ last = omega (arith, rw some at l, g .low r (next .run) (next .has), key-is) in
+        record {
+          done = g .done;
+          number = g .number;
+          are = noted-low kept n (nextAt t places r) ∙ g .are;
+          whole =
+              ap (λ xs. map (recordFrom t) (g .done) ++ xs)
+              (ap (λ (m : ℕ). mergeFrom t (cond (eqb n 0) 0 (suc m)) (raise places r)) same ∙ sym (merge-pass t places here-room (next .has) (omega (arith, l, key-is))))
+              ∙ g .whole;
+          inside = g .inside;
+          room = length-noted kept n (nextAt t places r) ∙ g .room;
+          places-room = raise-room;
+          low = next-low t places here-room s next key-is;
+        }
+
+    pub merging-more : {places′ kept′ : List ℕ} {j : ℕ} → places′ ≡ raise places r → kept′ ≡ noted kept n (nextAt t places r) → j ≡ cond (ltb k (newFrom n last)) 0 1
+        → Merging t w places′ kept′ (n + j) k
+    merging-more {places′} {kept′} {j} p q e =
+        rw (p, q)
+        (cases (ltb k (newFrom n last))
+        (λ y. let z : j ≡ 0 = rw y at e in rw (z, add-zero) (more-old (ltb-true _ _ y)))
+        (λ f. let z : j ≡ 1 = rw f at e in rw z (more-new (ltb-false _ _ f))))
+
+    -- there is one less
+    pub merging-less : {places′ : List ℕ} → places′ ≡ raise places r → leftTo t places′ (runCount t) < leftTo t places (runCount t)
+    merging-less p = rw p (left-less t places here-room (runCount t) (next .run) (next .has))
+
+  -- nothing is left
+  pub merging-end : {places kept : List ℕ} {n last : ℕ} → Merging t w places kept n last → NoRun t (runCount t) places → Noted t w kept n
+  merging-end {places} {n = n} {last} g none-left =
+      let all : map (recordFrom t) (g .done) ≡ w = rw (merge-end t places (newFrom n last) none-left, append-nil) at (g .whole) in
+      record {
+        number = g .number ∙ sym (length-map (g .done) (recordFrom t)) ∙ ap length all;
+        room = g .room;
+        inside = λ at i. g .inside at (take-mem 4096 (g .done) (rw (g .are) at i));
+        are = λ l. ap (map (recordFrom t)) (g .are ∙ take-all 4096 (g .done) (omega (arith, g .number))) ∙ all;
+      }
+
 -- so many records were counted at most
-pub merging-low : {t : List ℕ} {w : List Record} {places kept : List ℕ} {n : ℕ} → length w ≤ 258048 → Merging t w places kept n → n ≤ 258048
-merging-low {t} {w} {places} l g =
-    let sum : length (map (recordFrom t) (g .done)) + length (mergeLeft t places) ≡ length w =
-    sym (length-append (map (recordFrom t) (g .done)) (mergeLeft t places)) ∙ ap length (g .whole) in
+pub merging-low : {t : List ℕ} {w : List Record} {places kept : List ℕ} {n last : ℕ} → length w ≤ 258048 → Merging t w places kept n last → n ≤ 258048
+merging-low {t} {w} {places} {n = n} {last} l g =
+    let sum : length (map (recordFrom t) (g .done)) + length (mergeFrom t (newFrom n last) places) ≡ length w =
+    sym (length-append (map (recordFrom t) (g .done)) (mergeFrom t (newFrom n last) places)) ∙ ap length (g .whole) in
     omega (arith, g .number, length-map (g .done) (recordFrom t))

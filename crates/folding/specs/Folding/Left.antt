@@ -1,40 +1,43 @@
--- The step of the merge as the code takes it: the runs whose next record has the least key move on, and the first of them gives the record.
+-- The step of the merge as the code takes it: the record of the run that comes next is the next one of the merge, or an older one with the key of
+-- the last.
 --     left-next, left-none       what is left of a run
---     merge-step                 the next record of the merge
---     merge-end                  where no run has a next record, nothing is left
+--     next-key                   the key of the run that comes next
+--     merge-next, merge-pass     the next record of the merge; a record that is taken is no longer there from a higher key on
+--     merge-end                  where no run comes next, nothing is left
+--     merge-all                  from key 0 on all is left
+--     next-low                   what is left is not lower than the record that was taken
+--     left-less                  a record taken is one less
 -- Assumes nothing.
-use mathlib.Core.Path.{_≡_, sym, ap, _∙_, subst}
-use mathlib.Core.Logic.{⊎-elim}
-use Prim.Native.Nat.{ℕ, suc, _+_, _^_, _≤_, _<_}
+use mathlib.Core.Path.{_≡_, refl, sym, ap, _∙_, subst}
+use Prim.Native.Nat.{ℕ, zero, suc, _+_, _^_, _≤_, _<_}
 use native.Mathlib.Numerals.{add-one}
 use native.Mathlib.Omega.{arith}
-use mathlib.Core.Bool.{false, cond, _&&_}
-use mathlib.Core.Option.{Option, none, some}
-use mathlib.Core.List.{List, [], _∷_, List·Memᴰ·not-nil, List·Memᴰ·cases-cons}
+use mathlib.Core.Option.{none, some}
+use mathlib.Core.List.{List, [], _∷_}
 use lib.ListN.{length, getD, take, drop, take-append-drop, drop-of-length-le}
-use lib.Seq.{drop-cons}
+use lib.Seq.{drop-cons, getD-set-same, getD-set-other}
 use lib.Dec.{eqb, ltb}
-use borrow.Author.Tests.{lt-ltb, le-ltb, ltb-true, ltb-false, eq-eqb, ne-eqb, eqb-true, eqb-false}
-use Rattle.theory.specs.Tests.{cases}
-use Rattle.theory.specs.Lists.{here, all-nil, all-cons, place-getD}
-use Rattle.theory.specs.Rising.{Mem, Rises}
+use borrow.Author.Tests.{ltb-true, ltb-false, eq-eqb, ne-eqb, eqb-true, eqb-false}
+use Rattle.theory.specs.Tests.{cases, order}
+use Rattle.theory.specs.Lists.{all-nil, all-cons, place-getD}
+use Rattle.theory.specs.Rising.{All, Rises}
 use Rattle.theory.specs.Rising
 use Rattle.theory.specs.Rising.Laws.{rises-right}
 use Rattle.theory.specs.Records.{Record}
+use Rattle.theory.specs.Hiding.{sameKey}
+use Rattle.theory.specs.Listed.Laws.{listed-same}
+use Rattle.theory.specs.Merge.{merged}
 use Rattle.tray.specs.Frame.{runCount, countOf, runBytes}
 use Rattle.tray.specs.Run.{recordAt}
 use Rattle.tray.specs.Check.{Sound}
 use Rattle.tray.specs.Meaning.{runsOf, Fits}
 use Rattle.tray.specs.Meaning.Laws.{runIn, length-runOf, getElem?-runOf, mem-runOf, mem-runsOf, rises-runOf}
-use Rattle.index.specs.Scan.{nextIn, hasNext}
-use Rattle.heads.specs.Heads.{highest, keyOr, nextKey}
-use Rattle.heads.specs.Heads.Leads.{LeastKey}
-use Rattle.heads.specs.Heads.Leads.Next.{nextKey-has}
+use Rattle.index.specs.Scan.{nextIn, raise}
+use Rattle.heads.specs.Heads.{highest}
+use Rattle.heads.specs.Heads.Leads.{NextRun, NoRun}
 use Rattle.index.specs.Rules.{keyOf}
-use Rattle.folding.specs.Folding.{leftOf, mergeLeft, drawn, raiseAll}
-use Rattle.folding.specs.Folding.Draws.{drawn-rises, drawn-mem, mem-drawn}
-use Rattle.folding.specs.Folding.Raised.{raiseAll-same, raiseAll-other}
-use Rattle.folding.specs.Folding.Step.{Above, Turn, took, past, turn-some, firstOf-is, merged-turn, merged-nils}
+use Rattle.folding.specs.Folding.{leftOf, mergeLeft, fromKey, mergeFrom, leftTo}
+use Rattle.folding.specs.Folding.Step.{Above, from-all, from-drop, from-nil, given, turn-from, turn-some, firstOf-is, merged-turn, merged-nils}
 
 -- a list that rises is above its first member
 rises-above : {x : Record} {xs : List Record} → Rises keyOf (x ∷ xs) → Above (keyOf x) xs
@@ -61,30 +64,29 @@ module _ (t places : List ℕ) (r : ℕ) where
       rises-right keyOf (take (getD places r 0) (runIn t r)) (drop (getD places r 0) (runIn t r))
       (rw (take-append-drop (getD places r 0) (runIn t r)) all)
 
-  -- so it is above its first record
-  left-above : Sound t → r < runCount t → getD places r 0 < countOf t r → Above (nextIn t places r .key) (drop (suc (getD places r 0)) (runIn t r))
-  left-above s l k = rises-above (rw (left-next k) at (left-rises s l))
+  -- so all of it is from the first key on
+  left-from : {k : ℕ} → Sound t → r < runCount t → (getD places r 0 < countOf t r → k ≤ nextIn t places r .key) → All (λ e. k ≤ keyOf e) (leftOf t places r)
+  left-from {k} s l low =
+      cases (ltb (getD places r 0) (countOf t r))
+      (λ y. let h = ltb-true _ _ y in
+      let first : k ≤ nextIn t places r .key = low h in
+      let above : Above (nextIn t places r .key) (drop (suc (getD places r 0)) (runIn t r)) = rises-above (rw (left-next h) at (left-rises s l)) in
+      rw (left-next h) (all-cons first (λ e i. let z : nextIn t places r .key < keyOf e = above e i in omega arith)))
+      (λ n. rw (left-none (ltb-false _ _ n)) (all-nil _))
 
-  -- what the run gives up of key m
-  unfoldable given : ℕ → Option Record
-  given m = cond (hasNext t places r && eqb (nextIn t places r .key) m) (some (nextIn t places r)) none
+  -- a run that gives up its record of key k, and one that has none
+  given-next : {k : ℕ} → getD places r 0 < countOf t r → nextIn t places r .key ≡ k → given k (leftOf t places r) ≡ some (nextIn t places r)
+  unfolding given
+  given-next {k} l e = rw (left-next l, eq-eqb (nextIn t places r .key) k e)
 
-  given-some : {m : ℕ} → getD places r 0 < countOf t r → nextIn t places r .key ≡ m → given m ≡ some (nextIn t places r)
-  unfolding given hasNext
-  given-some {m} l e = rw (lt-ltb _ _ l, eq-eqb (nextIn t places r .key) m e)
-
-  given-end : (m : ℕ) → countOf t r ≤ getD places r 0 → given m ≡ none
-  unfolding given hasNext
-  given-end m l = rw (le-ltb _ _ l)
-
-  given-none : (m : ℕ) → getD places r 0 < countOf t r → (nextIn t places r .key ≡ m → ⊥) → given m ≡ none
-  unfolding given hasNext
-  given-none m l d = rw (lt-ltb _ _ l, ne-eqb (nextIn t places r .key) m d)
-
--- the key that is kept of a run at its end
-pub end-key : (t places : List ℕ) (r : ℕ) → ltb (getD places r 0) (countOf t r) ≡ false → nextKey t places r ≡ highest
-unfolding nextKey keyOr
-end-key t places r n = rw n
+  given-none : (k : ℕ) → (getD places r 0 < countOf t r → k < nextIn t places r .key) → given k (leftOf t places r) ≡ none
+  unfolding given
+  given-none k high =
+      cases (ltb (getD places r 0) (countOf t r))
+      (λ y. let h = ltb-true _ _ y in
+      let z : k < nextIn t places r .key = high h in
+      rw (left-next h, ne-eqb (nextIn t places r .key) k (λ e. omega arith)))
+      (λ n. rw (left-none (ltb-false _ _ n)))
 
 -- a key fits into 8 bytes
 next-fits : (t places : List ℕ) (r : ℕ) → Fits (runsOf t) → r < runCount t → getD places r 0 < countOf t r → nextIn t places r .key < 256 ^ 8
@@ -92,103 +94,87 @@ unfolding nextIn
 next-fits t places r fits l k =
     fits .records (runIn t r) (mem-runsOf t r l) (recordAt (runBytes t r) (getD places r 0)) (mem-runOf (countOf t r) (runBytes t r) (getD places r 0) k) .key
 
-module _ {t places : List ℕ} {h m : ℕ} (s : Sound t) (room : length places ≡ 63) (runs : h ≡ runCount t) (low : LeastKey t h places m) where
-  -- places after the step
-  abbrev after : List ℕ
-  after = raiseAll (drawn t h places m) places
+pub next-key : {t places : List ℕ} {r k : ℕ} → Fits (runsOf t) → NextRun t (runCount t) places r k → nextIn t places r .key ≡ k
+next-key {t} {places} {r} {k} fits n =
+    cases (ltb k highest) (λ y. n .is (ltb-true _ _ y))
+    (λ y. let short : nextIn t places r .key < 256 ^ 8 = next-fits t places r fits (n .run) (n .has) in
+    omega (arith, ltb-false k highest y, n .low r (n .run) (n .has)))
 
-  -- a run that has the key moves on,
-  turn-has : (r : ℕ) → r < runCount t → getD places r 0 < countOf t r → nextIn t places r .key ≡ m
-      → Turn m (some (nextIn t places r)) (leftOf t places r) (leftOf t after r)
-  unfolding leftOf
-  turn-has r l k e =
-      let few : runCount t ≤ 63 = s .frame .most-runs in
-      let on : getD after r 0 ≡ getD places r 0 + 1 =
-      raiseAll-same places r (drawn-rises t h places m) (mem-drawn t h places m (omega arith) k e) (omega arith) in
-      let next : drop (getD places r 0) (runIn t r) ≡ nextIn t places r ∷ drop (suc (getD places r 0)) (runIn t r) = left-next t places r k in
-      rw (next, on, add-one) (took e (rw e at (left-above t places r s l k)))
+-- the record of the run that comes next is the next one of the merge
+pub merge-next : {t places : List ℕ} {m r k : ℕ} → Sound t → Fits (runsOf t) → NextRun t (runCount t) places r k → m ≤ k
+    → mergeFrom t m places ≡ nextIn t places r ∷ mergeFrom t (suc k) places
+unfolding mergeFrom
+merge-next {t} {places} {m} {r} {k} s fits n l =
+    let turn = merged-turn (runCount t) 0 (λ i. given k (leftOf t places i)) (λ i. fromKey m (leftOf t places i)) (λ i. fromKey (suc k) (leftOf t places i))
+    (λ i p q. turn-from l (left-rises t places i s (omega arith)) (left-from t places i s (omega arith) (λ h. n .low i (omega arith) h))) in
+    let first = firstOf-is (runCount t) 0 r (λ i. given k (leftOf t places i)) (omega arith) (omega (arith, n .run)) (given-next t places r (n .has) (next-key fits n))
+    (λ i p q. given-none t places i k (λ h. n .before i q h)) in
+    turn-some turn first
 
-  -- and another stays
-  stays : (r : ℕ) → (Mem r (drawn t h places m) → ⊥) → leftOf t after r ≡ leftOf t places r
-  unfolding leftOf
-  stays r d = ap (λ (p : ℕ). drop p (runIn t r)) (raiseAll-other (drawn t h places m) places r d)
+-- what is left of the runs after a record of run r
+module _ (t places : List ℕ) {r : ℕ} (room : r < length places) where
+  raised-here : getD (raise places r) r 0 ≡ suc (getD places r 0)
+  unfolding raise
+  raised-here = getD-set-same places r (getD places r 0 + 1) 0 room ∙ add-one (getD places r 0)
 
-  turn-past : (r : ℕ) → (Mem r (drawn t h places m) → ⊥) → Above m (leftOf t places r) → Turn m none (leftOf t places r) (leftOf t after r)
-  turn-past r d a = subst (λ xs. Turn m none (leftOf t places r) xs) (sym (stays r d)) (past a)
+  raised-other : (i : ℕ) → (i ≡ r → ⊥) → getD (raise places r) i 0 ≡ getD places i 0
+  unfolding raise
+  raised-other i d = getD-set-other places r i (getD places r 0 + 1) 0 d
 
-  turn-of : (r : ℕ) → r < runCount t → Turn m (given t places r m) (leftOf t places r) (leftOf t after r)
-  turn-of r l = cases (ltb (getD places r 0) (countOf t r)) (λ y. has (ltb-true _ _ y)) (λ n. hasn't (ltb-false _ _ n))
+  -- from a higher key on it is the same
+  pub merge-pass : {m : ℕ} → getD places r 0 < countOf t r → nextIn t places r .key < m → mergeFrom t m places ≡ mergeFrom t m (raise places r)
+  unfolding mergeFrom leftOf
+  merge-pass {m} has low =
+      ap (merged keyOf (sameKey keyOf))
+      (listed-same (runCount t) 0 0 (λ i. fromKey m (leftOf t places i)) (λ i. fromKey m (leftOf t (raise places r) i)) (λ j l. same (0 + j)))
     where
-      hasn't : countOf t r ≤ getD places r 0 → Turn m (given t places r m) (leftOf t places r) (leftOf t after r)
-      hasn't k =
-          let none-drawn : Mem r (drawn t h places m) → ⊥ = λ i. (let w = drawn-mem t h places m i in omega (arith, w .1)) in
-          let empty : Above m (leftOf t places r) = rw (left-none t places r k) (all-nil _) in
-          rw (given-end t places r m k) (turn-past r none-drawn empty)
-
-      has : getD places r 0 < countOf t r → Turn m (given t places r m) (leftOf t places r) (leftOf t after r)
-      has k =
-          cases (eqb (nextIn t places r .key) m)
-          (λ y. let e = eqb-true _ _ y in rw (given-some t places r k e) (turn-has r l k e))
-          (λ n. let d = eqb-false _ _ n in
-          let none-drawn : Mem r (drawn t h places m) → ⊥ = λ i. d (drawn-mem t h places m i .2) in
-          rw (given-none t places r m k d) (turn-past r none-drawn (higher k d)))
+      same : (i : ℕ) → fromKey m (leftOf t places i) ≡ fromKey m (leftOf t (raise places r) i)
+      same i =
+          cases (eqb i r)
+          (λ y. subst (λ (j : ℕ). fromKey m (leftOf t places j) ≡ fromKey m (leftOf t (raise places r) j)) (sym (eqb-true i r y)) here)
+          (λ f. ap (λ (p : ℕ). fromKey m (drop p (runIn t i))) (sym (raised-other i (eqb-false i r f))))
         where
-          higher : getD places r 0 < countOf t r → (nextIn t places r .key ≡ m → ⊥) → Above m (leftOf t places r)
-          higher k d =
-              let least : m ≤ nextKey t places r = low .low r (omega arith) in
-              let is : nextKey t places r ≡ nextIn t places r .key = nextKey-has t places r k in
-              let strict : m < nextIn t places r .key = cases (ltb m (nextIn t places r .key)) (λ y. ltb-true _ _ y)
-              (λ n. let z : nextIn t places r .key ≤ m = ltb-false _ _ n in absurd (d (omega arith))) in
-              let above : Above (nextIn t places r .key) (drop (suc (getD places r 0)) (runIn t r)) = left-above t places r s l k in
-              rw (left-next t places r k) (all-cons strict (λ e i. let z : nextIn t places r .key < keyOf e = above e i in omega arith))
+          here : fromKey m (leftOf t places r) ≡ fromKey m (leftOf t (raise places r) r)
+          here =
+              ap (fromKey m) (left-next t places r has)
+              ∙ from-drop m (nextIn t places r) (drop (suc (getD places r 0)) (runIn t r)) low
+              ∙ ap (λ (p : ℕ). fromKey m (drop p (runIn t r))) (sym raised-here)
 
-  -- runs before the first that is drawn have no record of the key
-  before : {q : ℕ} {qs : List ℕ} → drawn t h places m ≡ q ∷ qs → (r : ℕ) → r < q → r < runCount t → given t places r m ≡ none
-  before {q} {qs} e r l k =
-      cases (ltb (getD places r 0) (countOf t r))
-      (λ y. let p = ltb-true _ _ y in
-      cases (eqb (nextIn t places r .key) m)
-      (λ z. absurd (low-first (rw e at (drawn-rises t h places m)) (rw e at (mem-drawn t h places m {r = r} (omega arith) p (eqb-true _ _ z)))))
-      (λ n. given-none t places r m p (eqb-false _ _ n)))
-      (λ n. given-end t places r m (ltb-false _ _ n))
+  -- the runs' next records are not lower than the one that was taken
+  pub next-low : {k : ℕ} → Sound t → NextRun t (runCount t) places r k → nextIn t places r .key ≡ k
+      → (i : ℕ) → i < runCount t → getD (raise places r) i 0 < countOf t i → k ≤ nextIn t (raise places r) i .key
+  unfolding nextIn
+  next-low {k} s n e i l h =
+      cases (eqb i r)
+      (λ y. here (eqb-true i r y))
+      (λ f. let p = raised-other i (eqb-false i r f) in rw p (n .low i l (rw p at h)))
     where
-      low-first : Rises (λ k. k) (q ∷ qs) → Mem r (q ∷ qs) → ⊥
-      low-first (Rising.more u v) i = ⊎-elim (λ w. omega arith) (λ w. let z : q < r = u r w in omega arith) (List·Memᴰ·cases-cons i)
+      here : i ≡ r → k ≤ recordAt (runBytes t i) (getD (raise places r) i 0) .key
+      here q = rw (q, raised-here) (omega (arith, s .keys r (getD places r 0) (n .run) (rw (q, raised-here) at h), e))
 
-  pub merge-step : {q : ℕ} {qs : List ℕ} → drawn t h places m ≡ q ∷ qs → mergeLeft t places ≡ nextIn t places q ∷ mergeLeft t (raiseAll (q ∷ qs) places)
-  unfolding mergeLeft
-  merge-step {q} {qs} e =
-      let w = drawn-mem t h places m {r = q} (rw e here) in
-      let turn = merged-turn (runCount t) 0 (λ r. given t places r m) (leftOf t places) (leftOf t after) (λ r l u. turn-of r (omega arith)) in
-      let first = firstOf-is (runCount t) 0 q (λ r. given t places r m) (omega arith) (omega (arith, w .0)) (given-some t places q (w .1) (w .2))
-      (λ r l u. before e r u (omega (arith, w .0))) in
-      rw e at (turn-some turn first)
+  -- one record less
+  left-other : (n : ℕ) → n ≤ r → leftTo t (raise places r) n ≡ leftTo t places n
+  unfolding leftTo
+  left-other zero l = refl
+  left-other (suc n) l = rw (left-other n (omega arith), raised-other n (λ e. omega arith))
 
-  -- where none is drawn, nothing is left
-  pub merge-end : Fits (runsOf t) → drawn t h places m ≡ [] → mergeLeft t places ≡ []
-  unfolding mergeLeft
-  merge-end fits e = merged-nils (runCount t) 0 (leftOf t places) (λ r l u. nothing r (omega arith))
-    where
-      no-run : {r : ℕ} → r < h → getD places r 0 < countOf t r → nextIn t places r .key ≡ m → ⊥
-      no-run {r} l k p = List·Memᴰ·not-nil (rw e at (mem-drawn t h places m {r = r} l k p))
+  pub left-less : (n : ℕ) → r < n → getD places r 0 < countOf t r → leftTo t (raise places r) n < leftTo t places n
+  unfolding leftTo
+  left-less zero l h = absurd (omega arith)
+  left-less (suc n) l h =
+      order r n
+      (λ k. let z = left-less n k h in let p = raised-other n (λ e. omega arith) in omega arith)
+      (λ e. subst (λ (j : ℕ). leftTo t (raise places r) (suc j) < leftTo t places (suc j)) e (let z = left-other r (omega arith) in let p = raised-here in omega arith))
+      (λ k. absurd (omega arith))
 
-      -- the least key is the highest number
-      high : m < highest → ⊥
-      high l =
-          let g = low .got l in
-          cases (ltb (getD places (g .0) 0) (countOf t (g .0)))
-          (λ y. let k = ltb-true _ _ y in no-run (g .1) k (sym (nextKey-has t places (g .0) k) ∙ g .2))
-          (λ n. past-end (g .0) (g .2) n)
-        where
-          past-end : (r : ℕ) → nextKey t places r ≡ m → ltb (getD places r 0) (countOf t r) ≡ false → ⊥
-          past-end r p n = omega (arith, end-key t places r n)
+-- where no run comes next, nothing is left
+pub merge-end : (t places : List ℕ) (m : ℕ) → NoRun t (runCount t) places → mergeFrom t m places ≡ []
+unfolding mergeFrom
+merge-end t places m n =
+    merged-nils (runCount t) 0 (λ r. fromKey m (leftOf t places r)) (λ r l u. ap (fromKey m) (left-none t places r (n r (omega arith))) ∙ from-nil m)
 
-      nothing : (r : ℕ) → r < runCount t → leftOf t places r ≡ []
-      nothing r l =
-          cases (ltb (getD places r 0) (countOf t r))
-          (λ y. let k = ltb-true _ _ y in
-          let least : m ≤ nextKey t places r = low .low r (omega arith) in
-          let is : nextKey t places r ≡ nextIn t places r .key = nextKey-has t places r k in
-          let short : nextIn t places r .key < 256 ^ 8 = next-fits t places r fits l k in
-          absurd (cases (ltb m highest) (λ z. high (ltb-true _ _ z)) (λ z. let u : highest ≤ m = ltb-false _ _ z in no-run {r = r} (omega arith) k (omega arith))))
-          (λ n. left-none t places r (ltb-false _ _ n))
+pub merge-all : (t places : List ℕ) → mergeFrom t 0 places ≡ mergeLeft t places
+unfolding mergeFrom mergeLeft
+merge-all t places =
+    ap (merged keyOf (sameKey keyOf))
+    (listed-same (runCount t) 0 0 (λ r. fromKey 0 (leftOf t places r)) (leftOf t places) (λ j l. from-all 0 (leftOf t places (0 + j)) (λ e i. omega arith)))

@@ -1,29 +1,22 @@
--- What the code that moves runs needs: each law is a way out of a function, or a turn of its loop.
+-- What the start of the merge needs: each law is a way out of a function, or a turn of its loop.
 --     skips-none, skips-more, skips-all             runs read to their ends
 --     padded-none, folding-reading, folding-merge, folding-ended, folding-noted     what the merge starts from
---     cached-more                                   a run moved on by one record
---     Moving, moving-none, -head, -more, -all       the runs of a key, one by one
 -- Assumes nothing.
-use mathlib.Core.Path.{_≡_, refl, sym, ap, _∙_, subst, subst₂}
-use mathlib.Core.Logic.{_⊎_, ⊎-elim}
-use Prim.Native.Nat.{ℕ, zero, suc, _+_, _-_, _≤_, _<_}
+use mathlib.Core.Path.{_≡_, refl, _∙_, subst, subst₂}
+use mathlib.Core.Logic.{⊎-elim}
+use Prim.Native.Nat.{ℕ, zero, suc, _+_, _≤_, _<_}
 use native.Mathlib.Omega.{arith}
-use mathlib.Core.List.{List, [], _∷_}
-use lib.ListN.{length, getD, take, drop, set, length-set, drop-of-length-le, replicate, length-replicate, getD-replicate}
-use lib.Seq.{getD-set-same, getD-set-other, length-take-le}
-use lib.Dec.{eqb}
-use borrow.Author.Tests.{eqb-true, eqb-false}
-use Rattle.theory.specs.Tests.{cases, order}
+use mathlib.Core.List.{List}
+use lib.ListN.{length, getD, set, length-set, replicate, length-replicate, getD-replicate}
+use lib.Seq.{getD-set-same, getD-set-other}
+use Rattle.theory.specs.Tests.{order}
 use Rattle.theory.specs.Records.{Record}
-use Rattle.tray.specs.Frame.{runCount, countOf, runBytes}
+use Rattle.tray.specs.Frame.{runCount, countOf}
 use Rattle.tray.specs.declared.frame.TrayFrame.{TrayFrame}
 use Rattle.tray.specs.Meaning.{runsOf}
-use Rattle.index.specs.Scan.{raise}
 use Rattle.index.specs.Scan.Code.{Reading}
-use Rattle.heads.specs.Heads.{highest, keyOr, nextKey, Padded, Caching}
-use Rattle.heads.specs.Heads.Laws.{next-is}
-use Rattle.folding.specs.Folding.{mergedRun, mergeLeft, Takeable, more, raiseAll, Ended, Skips, Noted, Folding}
-use Rattle.folding.specs.Folding.Draws.{group-next}
+use Rattle.heads.specs.Heads.{highest, Padded}
+use Rattle.folding.specs.Folding.{mergedRun, mergeLeft, Ended, Skips, Noted, Folding}
 use Rattle.folding.specs.Folding.Start.{Begins, merge-begins}
 
 -- the runs from `from` up to `to` read to their ends, one by one
@@ -95,82 +88,3 @@ module _ {t : List ℕ} {a b : ℕ} {f : TrayFrame} (g : Folding t a b f) where
 
   pub folding-noted : {w : List Record} {kept : List ℕ} {n : ℕ} → w ≡ mergedRun a b (runsOf t) → Noted t w kept n → Noted t (mergedRun a b (runsOf t)) kept n
   folding-noted {w} {kept} {n} e k = subst (λ (v : List Record). Noted t v kept n) e k
-
--- a run moved on by one record
-module _ {t counts starts places keys run : List ℕ} {r i : ℕ} (g : Caching t counts starts places keys) (l : r < runCount t) (e : i ≡ r) (b : run ≡ runBytes t r) where
-  raised-reading : Reading t counts starts (set places i (getD places i 0 + 1))
-  raised-reading =
-      let o = g .reading in
-      record { at = o .at; few = o .few; room-counts = o .room-counts; room-places = simp length-set (o .room-places); counts-are = o .counts-are }
-
-  raised-here : getD (set places i (getD places i 0 + 1)) r 0 ≡ getD places i 0 + 1
-  raised-here =
-      ap (λ (j : ℕ). getD (set places i (getD places i 0 + 1)) j 0) (sym e)
-      ∙ getD-set-same places i (getD places i 0 + 1) 0 (omega (arith, g .reading .few, g .reading .room-places))
-
-  pub cached-more : {k : ℕ} → k ≡ keyOr run (getD counts i 0) (getD places i 0 + 1) → Caching t counts starts (set places i (getD places i 0 + 1)) (set keys i k)
-  unfolding nextKey
-  cached-more {k} is =
-      let o = g .padded in
-      record {
-        reading = raised-reading;
-        padded = record {
-          few = o .few;
-          room = simp length-set (o .room);
-          past = λ j m n. getD-set-other keys i j k 0 (λ q. omega arith) ∙ o .past j m n;
-        };
-        keys-are = λ j m. cases (eqb i j) (λ y. here j (eqb-true i j y)) (λ n. there j m (eqb-false i j n));
-      }
-    where
-      here : (j : ℕ) → i ≡ j → getD (set keys i k) j 0 ≡ nextKey t (set places i (getD places i 0 + 1)) j
-      here j q =
-          let same : r ≡ j = sym e ∙ q in
-          ap (λ (n : ℕ). getD (set keys i k) n 0) (sym q)
-          ∙ getD-set-same keys i k 0 (omega (arith, g .padded .few, g .padded .room))
-          ∙ is ∙ next-is raised-reading l e b refl (sym raised-here) ∙ ap (nextKey t (set places i (getD places i 0 + 1))) same
-
-      there : (j : ℕ) → j < runCount t → (i ≡ j → ⊥) → getD (set keys i k) j 0 ≡ nextKey t (set places i (getD places i 0 + 1)) j
-      there j m d =
-          let p = getD-set-other places i j (getD places i 0 + 1) 0 (λ q. d (sym q)) in
-          getD-set-other keys i j k 0 (λ q. d (sym q)) ∙ g .keys-are j m ∙ ap (keyOr (runBytes t j) (countOf t j)) (sym p)
-
--- the runs from place j of the group on have still to move
-pub record Moving (t counts starts group : List ℕ) (n : ℕ) (places₀ places keys : List ℕ) (j : ℕ) : Type 0 where
-  pub cached : Caching t counts starts places keys
-  pub within : j ≤ n
-  pub left : Takeable t places (drop j (take n group))
-  pub same : raiseAll (drop j (take n group)) places ≡ raiseAll (take n group) places₀
-
-module _ {t counts starts group : List ℕ} {n : ℕ} {places₀ : List ℕ} where
-  pub moving-none : {keys : List ℕ} → Caching t counts starts places₀ keys → Takeable t places₀ (take n group)
-      → Moving t counts starts group n places₀ places₀ keys 0
-  moving-none g w = record { cached = g; within = omega arith; left = w; same = refl }
-
-  module _ {places keys : List ℕ} {j : ℕ} (fits : n ≤ length group) (w : Moving t counts starts group n places₀ places keys j) (l : j < n) where
-    next-here : Takeable t places (getD group j 0 ∷ drop (j + 1) (take n group))
-    next-here = rw (group-next group fits l) at (w .left)
-
-    pub moving-head : (getD group j 0 < runCount t) × (getD places (getD group j 0) 0 < countOf t (getD group j 0))
-    moving-head = go next-here
-      where
-        go : {r : ℕ} {rs : List ℕ} → Takeable t places (r ∷ rs) → (r < runCount t) × (getD places r 0 < countOf t r)
-        go (more a b k) = (a, b)
-
-    pub moving-more : {places′ keys′ : List ℕ} → places′ ≡ raise places (getD group j 0) → Caching t counts starts places′ keys′
-        → Moving t counts starts group n places₀ places′ keys′ (j + 1)
-    unfolding raiseAll
-    moving-more {places′} e g =
-        record { cached = g; within = omega arith; left = rw e (tail next-here); same = turn ∙ w .same }
-      where
-        tail : {r : ℕ} {rs : List ℕ} → Takeable t places (r ∷ rs) → Takeable t (raise places r) rs
-        tail (more a b z) = z
-
-        turn : raiseAll (drop (j + 1) (take n group)) places′ ≡ raiseAll (drop j (take n group)) places
-        turn = rw (group-next group fits l, e)
-
-  pub moving-all : {places keys : List ℕ} {j : ℕ} → n ≤ length group → Moving t counts starts group n places₀ places keys j → n ≤ j
-      → places ≡ raiseAll (take n group) places₀
-  unfolding raiseAll
-  moving-all {j = j} fits w l =
-      let none-left : drop j (take n group) ≡ [] = drop-of-length-le (take n group) {i = j} (rw (length-take-le n group fits) l) in
-      rw none-left at (w .same)

@@ -3,6 +3,8 @@
 --     Above, Turn                the records are above a key; a run before and after the step, with what it gave up
 --     over-turn, merged-turn     the step of two runs made one, and of all
 --     turn-some                  what was given up stood in front
+--     from-all, from-drop        the records from a key on
+--     given, turn-from           what a run gives up of the least key, and the step of that run
 --     firstOf, firstOf-is        the first of several that there is
 --     merged-nils                the merge of empty runs
 -- Assumes nothing.
@@ -11,14 +13,16 @@ use mathlib.Core.Logic.{⊎-elim}
 use Prim.Native.Nat.{ℕ, zero, suc, _+_, _≤_, _<_}
 use native.Mathlib.Nat.{eq-or-lt-of-le}
 use native.Mathlib.Omega.{arith}
-use mathlib.Core.Bool.{Bool, true, false, not}
+use mathlib.Core.Bool.{Bool, true, false, cond, not}
 use mathlib.Core.Option.{Option, none, some, Option·some-injective}
 use mathlib.Core.List.{List, [], _∷_}
-use lib.Dec.{ltb}
-use borrow.Author.Tests.{lt-ltb, le-ltb, eq-eqb, ne-eqb}
-use Rattle.theory.specs.Lists.{here, all-tail, all-nil, none-some}
-use Rattle.theory.specs.Rising.{All, any, keep, insert, insertAll}
-use Rattle.theory.specs.Rising.Kept.{keep-mem}
+use lib.Dec.{eqb, ltb}
+use borrow.Author.Tests.{lt-ltb, le-ltb, le-leb, lt-leb, eq-eqb, ne-eqb, eqb-true, eqb-false}
+use Rattle.theory.specs.Tests.{cases, order}
+use Rattle.theory.specs.Lists.{here, all-cons, all-tail, all-nil, none-some}
+use Rattle.theory.specs.Rising.{All, Rises, any, keep, insert, insertAll}
+use Rattle.theory.specs.Rising
+use Rattle.theory.specs.Rising.Kept.{keep-mem, keep-all}
 use Rattle.theory.specs.Rising.Inserted.{insertAll-mem}
 use Rattle.theory.specs.Records.{Record}
 use Rattle.theory.specs.Hiding.{sameKey}
@@ -27,6 +31,7 @@ use Rattle.theory.specs.Merge.{hidden, over, merged}
 use Rattle.theory.specs.Merge.Hidden.{hidden-none, hidden-some}
 use Rattle.theory.specs.Merge.Laws.{over-mem, over-nil-left}
 use Rattle.index.specs.Rules.{keyOf}
+use Rattle.folding.specs.Folding.{fromKey}
 
 -- all of these records are above a key
 abbrev pub Above : ℕ → List Record → Type 0
@@ -40,6 +45,45 @@ pub data Turn (m : ℕ) : Option Record → List Record → List Record → Type
 pub turn-some : {m : ℕ} {o : Option Record} {x : Record} {xs ys : List Record} → Turn m o xs ys → o ≡ some x → xs ≡ x ∷ ys
 turn-some (took {x} {xs} e a) q = ap (λ z. z ∷ xs) (Option·some-injective _ _ q)
 turn-some (past a) q = none-some q
+
+-- all records are from m on
+pub from-all : (m : ℕ) (xs : List Record) → All (λ e. m ≤ keyOf e) xs → fromKey m xs ≡ xs
+unfolding fromKey
+from-all m xs h = keep-all _ xs (λ e i. le-leb m (keyOf e) (h e i))
+
+-- the first one is lower
+pub from-drop : (m : ℕ) (x : Record) (xs : List Record) → keyOf x < m → fromKey m (x ∷ xs) ≡ fromKey m xs
+unfolding fromKey keep
+from-drop m x xs l = rw (lt-leb m (keyOf x) l)
+
+pub from-nil : (m : ℕ) → fromKey m [] ≡ []
+unfolding fromKey keep
+from-nil m = refl
+
+-- what a run gives up of key k
+unfoldable pub given : ℕ → List Record → Option Record
+given k [] = none
+given k (x ∷ xs) = cond (eqb (keyOf x) k) (some x) none
+
+-- a run that rises from the least key on
+pub turn-from : {m k : ℕ} {xs : List Record} → m ≤ k → Rises keyOf xs → All (λ e. k ≤ keyOf e) xs → Turn k (given k xs) (fromKey m xs) (fromKey (suc k) xs)
+unfolding given
+turn-from {m} {k} l Rising.none low = rw (from-nil m, from-nil (suc k)) (past (all-nil _))
+turn-from {m} {k} l (Rising.more {a = x} {xs} above r) low =
+    rw (from-all m (x ∷ xs) (λ e i. let z : k ≤ keyOf e = low e i in omega arith))
+    (cases (eqb (keyOf x) k) (λ y. has (eqb-true _ _ y)) (λ n. hasn't (eqb-false _ _ n)))
+  where
+    has : keyOf x ≡ k → Turn k (cond (eqb (keyOf x) k) (some x) none) (x ∷ xs) (fromKey (suc k) (x ∷ xs))
+    has e =
+        let higher : Above k xs = rw e at above in
+        rw (eq-eqb (keyOf x) k e, from-drop (suc k) x xs (omega arith), from-all (suc k) xs higher) (took e higher)
+
+    hasn't : (keyOf x ≡ k → ⊥) → Turn k (cond (eqb (keyOf x) k) (some x) none) (x ∷ xs) (fromKey (suc k) (x ∷ xs))
+    hasn't d =
+        let z : k ≤ keyOf x = low x here in
+        let first : k < keyOf x = order k (keyOf x) (λ u. u) (λ u. absurd (d (sym u))) (λ u. absurd (omega arith)) in
+        let higher : Above k (x ∷ xs) = all-cons first (λ e i. let u : keyOf x < keyOf e = above e i in omega arith) in
+        rw (ne-eqb (keyOf x) k d, from-all (suc k) (x ∷ xs) higher) (past higher)
 
 -- what is inserted into a list that begins lower goes behind the first
 insertAll-behind : (xs : List Record) (y : Record) (ys : List Record) → Above (keyOf y) xs → insertAll keyOf xs (y ∷ ys) ≡ y ∷ insertAll keyOf xs ys

@@ -1,0 +1,79 @@
+-- `folding::take_next` meets its contract: the record is noted before the run moves on. Assumes nothing.
+use Rattle.folding.specs.Folding.Keeping.{noted-at, stands-at}
+use native.Mathlib.Omega.{arith}
+use borrow.Author.Needs.{needs}
+use Rattle.folding.proofs.take_next.Statement.{statement}
+use Rattle.folding.proofs.take_next.Tie as tie
+
+wide-size-requires : tie.Need-wide-size-requires
+wide-size-requires c κs = search needs
+
+mul-note : tie.Need-mul-note
+mul-note c = search needs
+
+shared-slice-read-note : tie.Need-shared-slice-read-note
+shared-slice-read-note c = search needs
+
+mul-size16 : tie.Need-mul-size16
+mul-size16 c = search needs
+
+slice-read-size16 : tie.Need-slice-read-size16
+slice-read-size16 c = search needs
+
+size16-requires : tie.Need-size16-requires
+size16-requires c κs = search needs
+
+mul-note-2 : tie.Need-mul-note-2
+mul-note-2 c = let at = stands-at (c .before .before .before .before .before .before .before .before .before .before .before .before .before .before .pre .0 .caching .reading) (c .before .before .before .before .before .before .before .before .before .before .before .before .before .before .pre .1 .0) (c .before .before .before .before .wide-size .ensures) (c .before .before .before .before .before .before .before .before .before .before .before .before .before .before .pre .1 .1) in omega (arith, at .low, c .size16 .ensures)
+
+add-note : tie.Need-add-note
+add-note c = let at = stands-at (c .before .before .before .before .before .before .before .before .before .before .before .before .before .before .pre .0 .caching .reading) (c .before .before .before .before .before .before .before .before .before .before .before .before .before .before .pre .1 .0) (c .before .before .before .before .wide-size .ensures) (c .before .before .before .before .before .before .before .before .before .before .before .before .before .before .pre .1 .1) in omega (arith, at .low, c .size16 .ensures)
+
+note-requires : tie.Need-note-requires
+note-requires c κs = search needs
+
+advance-requires : tie.Need-advance-requires
+advance-requires c κs = search needs
+
+same-length : tie.Need-same-length
+same-length c = search needs
+
+same-length-2 : tie.Need-same-length-2
+same-length-2 c = search needs
+
+same-length-3 : tie.Need-same-length-3
+same-length-3 c = search needs
+
+same-length-4 : tie.Need-same-length-4
+same-length-4 c = search needs
+
+same-length-5 : tie.Need-same-length-5
+same-length-5 c = search needs
+
+same-length-6 : tie.Need-same-length-6
+same-length-6 c = search needs
+
+returns : tie.Need-returns
+returns c = let at = stands-at (c .before .before .before .before .before .before .before .before .before .before .before .before .before .before .before .before .before .before .before .before .before .before .before .before .before .before .before .before .before .before .before .before .before .pre .0 .caching .reading) (c .before .before .before .before .before .before .before .before .before .before .before .before .before .before .before .before .before .before .before .before .before .before .before .before .before .before .before .before .before .before .before .before .before .pre .1 .0) (c .before .before .before .before .before .before .before .before .before .before .before .before .before .before .before .before .before .before .before .before .before .before .before .wide-size .ensures) (c .before .before .before .before .before .before .before .before .before .before .before .before .before .before .before .before .before .before .before .before .before .before .before .before .before .before .before .before .before .before .before .before .before .pre .1 .1) in (noted-at _ _ (omega (arith, at .is, c .before .before .before .before .before .before .before .before .before .before .before .before .before .before .before .before .before .before .before .size16 .ensures)) (c .before .before .before .before .before .before .before .before .before .before .before .before .before .before .before .before .before .before .note .ensures), (c .before .before .before .before .before .before .before .before .before .before .advance .ensures .0, c .before .before .before .before .before .before .before .before .before .before .advance .ensures .1))
+
+pub take-next-spec : {M : Type 1} → statement M
+take-next-spec =
+    tie.close
+    (tie.spec
+    wide-size-requires
+    mul-note
+    shared-slice-read-note
+    mul-size16
+    slice-read-size16
+    size16-requires
+    mul-note-2
+    add-note
+    note-requires
+    advance-requires
+    same-length
+    same-length-2
+    same-length-3
+    same-length-4
+    same-length-5
+    same-length-6
+    returns)
