@@ -1,2 +1,2 @@
--- What is kept of each run while all runs are merged: its next key, and which runs have the least one.
+-- What is kept of each run while all runs are merged: its next keys, and which run comes next.
 pub mod Heads
