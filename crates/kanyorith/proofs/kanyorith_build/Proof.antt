@@ -1,0 +1,46 @@
+-- `kanyorith::kanyorith_build` meets its promise: a way out for each answer. Assumes nothing.
+use Rattle.kanyorith.specs.Code.{build-wrote, build-refused}
+use borrow.Author.Needs.{needs}
+use Rattle.kanyorith.proofs.kanyorith_build.Statement.{statement}
+use Rattle.kanyorith.proofs.kanyorith_build.Tie as tie
+
+narrow-requires : tie.Need-narrow-requires
+narrow-requires c κs = search needs
+
+build-requires : tie.Need-build-requires
+build-requires c κs = search needs
+
+enum-known-a : tie.Need-enum-known-a
+enum-known-a c = search needs
+
+enum-known-a-2 : tie.Need-enum-known-a-2
+enum-known-a-2 c = search needs
+
+refuse-own-requires : tie.Need-refuse-own-requires
+refuse-own-requires c κs = search needs
+
+same-length : tie.Need-same-length
+same-length c = search needs
+
+returns : tie.Need-returns
+returns c = build-wrote (c .before .before .before .before .before .before .before .before .before .before .args .tray .now) (c .before .before .before .before .before .before .before .before .before .before .args .d) (c .before .before .before .before .before .before .before .before .before .before .args .out .now) (c .before .before .before .before .before .before .before .narrow .ensures) (c .before .before .before .before .before .build .ensures .0) (c .before .before .before .before .before .build .ensures .1) (c .before .a .given .1)
+
+same-length-2 : tie.Need-same-length-2
+same-length-2 c = search needs
+
+returns-2 : tie.Need-returns-2
+returns-2 c = build-refused (c .before .before .before .before .before .before .before .before .before .before .before .before .args .tray .now) (c .before .before .before .before .before .before .before .before .before .before .before .before .args .d) (c .before .before .before .before .before .before .before .before .before .before .before .before .args .out .now) (c .before .before .before .before .before .before .before .before .before .narrow .ensures) (c .before .before .before .before .before .before .before .build .ensures .0) (c .before .before .before .before .before .before .before .build .ensures .1) (c .before .before .before .a2 .given .1) (c .refuse-own .ensures)
+
+pub kanyorith-build-spec : {M : Type 1} → statement M
+kanyorith-build-spec =
+    tie.close
+    (tie.spec
+    narrow-requires
+    build-requires
+    enum-known-a
+    enum-known-a-2
+    refuse-own-requires
+    same-length
+    returns
+    same-length-2
+    returns-2)

@@ -1,0 +1,18 @@
+-- `kanyorith::kanyorith_seek` meets its promise: what `hand_over` promises, of the call's own answer. Assumes nothing.
+use mathlib.Core.Path.{subst}
+use Rattle.kanyorith.specs.Promises.{Sought}
+use borrow.Author.Needs.{needs}
+use Rattle.kanyorith.proofs.kanyorith_seek.Statement.{statement}
+use Rattle.kanyorith.proofs.kanyorith_seek.Tie as tie
+
+seek-requires : tie.Need-seek-requires
+seek-requires c κs = search needs
+
+hand-over-requires : tie.Need-hand-over-requires
+hand-over-requires c κs = search needs
+
+returns : tie.Need-returns
+returns c = subst (λ a. Sought a (c .before .before .before .before .before .before .before .before .args .run .now) (c .before .before .before .before .before .before .before .before .args .place .now) (c .before .before .before .before .before .before .before .before .args .cursor .now) (c .hand-over .result) (c .hand-over .last .1 .1 .1 .1 .0) (c .hand-over .last .1 .0) (c .hand-over .last .1 .1 .0) (c .hand-over .last .1 .1 .1 .0)) (c .before .before .before .before .before .seek .ensures) (c .hand-over .ensures)
+
+pub kanyorith-seek-spec : {M : Type 1} → statement M
+kanyorith-seek-spec = tie.close (tie.spec seek-requires hand-over-requires returns)

@@ -1,0 +1,13 @@
+-- What the public calls promise, and what follows from it.
+-- the theorems: the file to open first
+pub mod Theorems
+-- a promise for each call
+pub mod Promises
+-- number and figure of each answer
+pub mod Told
+-- a cursor as 66 numbers
+pub mod Cursors
+-- numbers that are wider than the library's own
+pub mod Wide
+-- each way out of a call, as its promise
+pub mod Code
