@@ -3,6 +3,8 @@
 pub mod Theorems
 -- a promise for each call
 pub mod Promises
+-- when each number is given
+pub mod Exactly
 -- number and figure of each answer
 pub mod Told
 -- a cursor as 66 numbers
