@@ -45,6 +45,7 @@ use Rattle.folded.specs.Fold.{foldedRun, foldSize, foldAnswer}
 use Rattle.folded.specs.Fold.Laws.{InBounds}
 use Rattle.folded.specs.Fold.Answers.{When as FoldWhen, fold-says}
 use Rattle.kanyorith.specs.Told.{trayTold, indexTold, buildTold, foldTold}
+use Rattle.kanyorith.specs.Told.Laws.{refused-above}
 
 -- a table that gives a verdict, and gives it alone, gives a number and a figure exactly where they are the verdict's
 pub exactly-by : (Table : ℕ → ℕ → Type 0) (v : Verdict) → Table (v .number) (v .figure) → ((n f : ℕ) → Table n f → told n f ≡ v)
@@ -98,21 +99,7 @@ module _ (t : List ℕ) where
     tray-row : (r : Refusal) → checkTray t ≡ TrayRefused r → TraySays (verdictOf r .number) (verdictOf r .figure) × (0 < verdictOf r .number)
     unfolding trayTold
     tray-row r e =
-        (subst (λ (a : TrayAnswer). TraySays (trayTold a .number) (trayTold a .figure)) e (tray-gives (says t)), above r)
-      where
-        above : (r : Refusal) → 0 < verdictOf r .number
-        above TrayFrame = omega arith
-        above (KeyOrder n) = omega arith
-        above (RecordKind n) = omega arith
-        above IndexFrame = omega arith
-        above (Segment n) = omega arith
-        above (SegmentSize n) = omega arith
-        above (Room n) = omega arith
-        above (Bounds n) = omega arith
-        above (PrefixEnd n) = omega arith
-        above (Lost g s) = omega arith
-        above (Cursor n) = omega arith
-        above (RunLength n) = omega arith
+        (subst (λ (a : TrayAnswer). TraySays (trayTold a .number) (trayTold a .figure)) e (tray-gives (says t)), refused-above r)
 
     index-gives : {a : IndexAnswer} → IndexTable t x a → IndexSays (indexTold a .number) (indexTold a .figure)
     unfolding indexTold

@@ -9,6 +9,8 @@ pub mod Exactly
 pub mod Told
 -- a cursor as 66 numbers
 pub mod Cursors
+-- what holds along any walk
+pub mod Walks
 -- numbers that are wider than the library's own
 pub mod Wide
 -- each way out of a call, as its promise

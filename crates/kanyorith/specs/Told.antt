@@ -1,6 +1,7 @@
 -- Number and figure of each call's answer, as its caller gets them (document 01, "Refusals by number"): without a refusal the number is 0, and
 -- the figure is what the call answers: records, segments, bytes written, records listed; at get 1 for found and 0 for absent; at seek, next and
 -- page 1 where a record is left and 0 at the end. Assumes nothing.
+pub mod Laws
 use Rattle.refusal.specs.declared.Verdict.{Verdict}
 use Rattle.refusal.specs.Table.{told, verdictOf}
 use Rattle.tray.specs.declared.check.TrayAnswer.{TrayAnswer}
