@@ -9,6 +9,8 @@ pub mod Exactly
 pub mod Told
 -- a cursor as 66 numbers
 pub mod Cursors
+-- reading through an accepted index
+pub mod Reads
 -- what holds along any walk
 pub mod Walks
 -- numbers that are wider than the library's own

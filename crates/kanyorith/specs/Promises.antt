@@ -72,14 +72,13 @@ pub record Sought (answer : Seeks) (run place : ℕ) (cursor : List ℕ) (number
   pub place-left : place′ ≡ placeLeft (answer .answer) place
   pub cursor-left : cursor′ ≡ cursorLeft (answer .answer) (answer .cursor) cursor
 
--- seek, and next from the cursor on entry
-abbrev pub Seek : (tray index key cursor : List ℕ) (run place number figure run′ place′ : ℕ) (cursor′ : List ℕ) → Type 0
-Seek tray index key cursor run place number figure run′ place′ cursor′ =
-    Sought (seekAnswer tray index key) run place cursor number figure run′ place′ cursor′
+-- seek
+pub record Seek (tray index key cursor : List ℕ) (run place number figure run′ place′ : ℕ) (cursor′ : List ℕ) : Type 0 where
+  pub sought : Sought (seekAnswer tray index key) run place cursor number figure run′ place′ cursor′
 
-abbrev pub Next : (tray index cursor : List ℕ) (run place number figure run′ place′ : ℕ) (cursor′ : List ℕ) → Type 0
-Next tray index cursor run place number figure run′ place′ cursor′ =
-    Sought (nextAnswer tray index (cursorIn cursor)) run place cursor number figure run′ place′ cursor′
+-- next, from the cursor on entry
+pub record Next (tray index cursor : List ℕ) (run place number figure run′ place′ : ℕ) (cursor′ : List ℕ) : Type 0 where
+  pub sought : Sought (nextAnswer tray index (cursorIn cursor)) run place cursor number figure run′ place′ cursor′
 
 -- the cursor that page leaves
 unfoldable pub pageCursorLeft : PageAnswer → Cursor → List ℕ → List ℕ
@@ -95,9 +94,9 @@ pub record Paging (answer : Pages) (leaves cursor : List ℕ) (number figure cou
   pub leaving : left ≡ leaves
 
 -- page, from the cursor on entry
-abbrev pub Page : (tray index cursor out : List ℕ) (number figure count : ℕ) (cursor′ left : List ℕ) → Type 0
-Page tray index cursor out number figure count cursor′ left =
-    Paging (pageAnswer tray index (cursorIn cursor) out) (pageLeaves tray index (cursorIn cursor) out) cursor number figure count cursor′ left
+pub record Page (tray index cursor out : List ℕ) (number figure count : ℕ) (cursor′ left : List ℕ) : Type 0 where
+  pub paging :
+      Paging (pageAnswer tray index (cursorIn cursor) out) (pageLeaves tray index (cursorIn cursor) out) cursor number figure count cursor′ left
 
 -- sheet
 pub record Sheet (tray index prefix out : List ℕ) (number figure : ℕ) (left : List ℕ) : Type 0 where

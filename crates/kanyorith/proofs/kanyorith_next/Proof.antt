@@ -18,7 +18,7 @@ hand-over-requires : tie.Need-hand-over-requires
 hand-over-requires c κs = search needs
 
 returns : tie.Need-returns
-returns c = sought-narrow (c .before .before .before .before .before .before .before .before .before .before .before .args .tray .now) (c .before .before .before .before .before .before .before .before .before .before .before .args .index .now) (cursorIn (c .before .before .before .before .before .before .before .before .before .before .before .args .cursor .now)) (subst (λ a. Sought a (c .before .before .before .before .before .before .before .before .before .before .before .args .run .now) (c .before .before .before .before .before .before .before .before .before .before .before .args .place .now) (c .before .before .before .before .before .before .before .before .before .before .before .args .cursor .now) (c .hand-over .result) (c .hand-over .last .1 .1 .1 .1 .0) (c .hand-over .last .1 .0) (c .hand-over .last .1 .1 .0) (c .hand-over .last .1 .1 .1 .0)) (c .before .before .before .before .before .next .ensures ∙ ap (nextAnswer (c .before .before .before .before .before .before .before .before .before .before .before .args .tray .now) (c .before .before .before .before .before .before .before .before .before .before .before .args .index .now)) (c .before .before .before .before .before .before .cursor-in .ensures)) (c .hand-over .ensures))
+returns c = record { sought = sought-narrow (c .before .before .before .before .before .before .before .before .before .before .before .args .tray .now) (c .before .before .before .before .before .before .before .before .before .before .before .args .index .now) (cursorIn (c .before .before .before .before .before .before .before .before .before .before .before .args .cursor .now)) (subst (λ a. Sought a (c .before .before .before .before .before .before .before .before .before .before .before .args .run .now) (c .before .before .before .before .before .before .before .before .before .before .before .args .place .now) (c .before .before .before .before .before .before .before .before .before .before .before .args .cursor .now) (c .hand-over .result) (c .hand-over .last .1 .1 .1 .1 .0) (c .hand-over .last .1 .0) (c .hand-over .last .1 .1 .0) (c .hand-over .last .1 .1 .1 .0)) (c .before .before .before .before .before .next .ensures ∙ ap (nextAnswer (c .before .before .before .before .before .before .before .before .before .before .before .args .tray .now) (c .before .before .before .before .before .before .before .before .before .before .before .args .index .now)) (c .before .before .before .before .before .before .cursor-in .ensures)) (c .hand-over .ensures)) }
 
 pub kanyorith-next-spec : {M : Type 1} → statement M
 kanyorith-next-spec =

@@ -12,7 +12,7 @@ hand-over-requires : tie.Need-hand-over-requires
 hand-over-requires c κs = search needs
 
 returns : tie.Need-returns
-returns c = subst (λ a. Sought a (c .before .before .before .before .before .before .before .before .args .run .now) (c .before .before .before .before .before .before .before .before .args .place .now) (c .before .before .before .before .before .before .before .before .args .cursor .now) (c .hand-over .result) (c .hand-over .last .1 .1 .1 .1 .0) (c .hand-over .last .1 .0) (c .hand-over .last .1 .1 .0) (c .hand-over .last .1 .1 .1 .0)) (c .before .before .before .before .before .seek .ensures) (c .hand-over .ensures)
+returns c = record { sought = subst (λ a. Sought a (c .before .before .before .before .before .before .before .before .args .run .now) (c .before .before .before .before .before .before .before .before .args .place .now) (c .before .before .before .before .before .before .before .before .args .cursor .now) (c .hand-over .result) (c .hand-over .last .1 .1 .1 .1 .0) (c .hand-over .last .1 .0) (c .hand-over .last .1 .1 .0) (c .hand-over .last .1 .1 .1 .0)) (c .before .before .before .before .before .seek .ensures) (c .hand-over .ensures) }
 
 pub kanyorith-seek-spec : {M : Type 1} → statement M
 kanyorith-seek-spec = tie.close (tie.spec seek-requires hand-over-requires returns)
