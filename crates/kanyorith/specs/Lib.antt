@@ -11,6 +11,10 @@ pub mod Told
 pub mod Cursors
 -- reading through an accepted index
 pub mod Reads
+-- folding, before and after
+pub mod Folds
+-- what page and sheet leave
+pub mod Left
 -- what holds along any walk
 pub mod Walks
 -- numbers that are wider than the library's own
