@@ -151,6 +151,18 @@ seek-sees {t} {x} {key} {cursor} {cursor′} {run} {place} {n} {f} {run′} {pla
     sees (reading a) (be 8 key 0) (from t x (be 8 key 0)) refl
     (subst (λ (w : Seeks). Sought w run place cursor n f run′ place′ cursor′) (sought-from (reading a) key) (s .sought))
 
+-- two that see the same points see the same
+pub same-sights : {t u : List ℕ} {key n f r p m g r′ p′ : ℕ} → onward u key ≡ onward t key → Sights t key n f r p → Sights u key m g r′ p′
+    → (n ≡ m) × (f ≡ g) × (f ≡ 1 → recordAt (runBytes t r) p ≡ recordAt (runBytes u r′) p′)
+same-sights o (at-record e es is reads) (at-record d ds is′ reads′) =
+    (refl, refl, λ z. reads ∙ head (sym is ∙ sym o ∙ is′) ∙ sym reads′)
+  where
+    head : {e d : Record} {es ds : List Record} → e ∷ es ≡ d ∷ ds → e ≡ d
+    head z = cc
+same-sights o (at-record e es is reads) (at-end none) = let z : e ∷ es ≡ [] = sym is ∙ sym o ∙ none in never (cc)
+same-sights o (at-end none) (at-record d ds is′ reads′) = let z : d ∷ ds ≡ [] = sym is′ ∙ o ∙ none in never (cc)
+same-sights o (at-end none) (at-end none′) = (refl, refl, λ z. never z)
+
 -- calls of next from a cursor on, until one says the end: the records that they found
 pub data Steps (t x : List ℕ) : List ℕ → List Record → Type 0 where
   no-more : {c c′ : List ℕ} {run place run′ place′ : ℕ} → Next t x c run place 0 0 run′ place′ c′ → Steps t x c []
@@ -258,16 +270,19 @@ seek-moved c (Refused r) t e = let l = refused-above r in let z : 0 ≡ verdictO
 -- they are the calls that the definitions speak of
 to-calls : {t x c bytes : List ℕ} → Paged t x c bytes → (outs : ℕ → List ℕ) × PageCalls t x outs 0 (cursorIn c) bytes
 to-calls {t} {x} {c} (last-one {out = out} p) =
-    let q = p .paging in
-    ((λ i. out), subst (PageCalls t x (λ i. out) 0 (cursorIn c)) (sym (ap₂ (λ (n : ℕ) (l : List ℕ). take (24 * n) l) (q .counts) (q .leaving)))
-    (last-page (page-end (pageAnswer t x (cursorIn c) out .answer) (q .answers))))
+    let q = p .paging in (
+      (λ i. out),
+      subst (PageCalls t x (λ i. out) 0 (cursorIn c)) (sym (ap₂ (λ (n : ℕ) (l : List ℕ). take (24 * n) l) (q .counts) (q .leaving)))
+          (last-page (page-end (pageAnswer t x (cursorIn c) out .answer) (q .answers))),
+    )
 to-calls {t} {x} {c} (then-more {out = out} {c′ = c′} {bytes = bytes} p rest) =
     let q = p .paging in
     let more = page-more (pageAnswer t x (cursorIn c) out .answer) (q .answers) in
-    let on = to-calls rest in
-    (before out (on .0),
-    subst (λ (l : List ℕ). PageCalls t x (before out (on .0)) 0 (cursorIn c) (l ++ bytes)) (sym (ap₂ (λ (n : ℕ) (l : List ℕ). take (24 * n) l) (q .counts) (q .leaving)))
-    (page-then more (subst (λ (k : Cursor). PageCalls t x (before out (on .0)) 1 k bytes) (page-moved c more (q .cursor-left)) (later out (on .1)))))
+    let on = to-calls rest in (
+      before out (on .0),
+      subst (λ (l : List ℕ). PageCalls t x (before out (on .0)) 0 (cursorIn c) (l ++ bytes)) (sym (ap₂ (λ (n : ℕ) (l : List ℕ). take (24 * n) l) (q .counts) (q .leaving)))
+          (page-then more (subst (λ (k : Cursor). PageCalls t x (before out (on .0)) 1 k bytes) (page-moved c more (q .cursor-left)) (later out (on .1)))),
+    )
 
 pub pages-are : {t x key cursor cursor′ bytes : List ℕ} {run place f run′ place′ : ℕ} → Accepted t x
     → Seek t x key cursor run place 0 f run′ place′ cursor′ → Paged t x cursor′ bytes → bytes ≡ listing (onward t (be 8 key 0))

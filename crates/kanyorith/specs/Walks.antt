@@ -52,7 +52,7 @@ module _ {S R : Type 0} (t x : List ℕ) (visit : ℕ → Spot → S → Visit S
       subst (Ends Q P) (sym (one-selector t x visit k g s places st rest))
       (split (Ends Q P) (eqb v 63)
       (λ y. selectors-end k g (s + 1) places st rest q later)
-      (λ n. split (Ends Q P) (named t places v) 
+      (λ n. split (Ends Q P) (named t places v)
       (λ y. after-ends (keeps v spot st q) _ (λ st′ q′. selectors-end k g (s + 1) (raise places (runIn v)) st′ rest q′ later))
       (λ n. at-loss q)))
     where
