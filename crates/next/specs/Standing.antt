@@ -1,4 +1,5 @@
 -- Whether a cursor belongs, as the code reckons it: places past the tray's runs by their sum, the others by a tally of the selectors.
+--     Copying, copy-none, copy-more, copy-end    places copied as numbers
 --     sumFor, sum-zero, zero-sum                 some places in a row
 --     selectorsFrom, Tallied, tally-none, tally-more     how many selectors name each run
 --     wantedAt, wanted-is                        the places that a cursor must have
@@ -8,12 +9,12 @@
 use mathlib.Core.Path.{_≡_, refl, sym, ap, ap₂, _∙_, subst}
 use Prim.Native.Nat.{ℕ, zero, suc, _+_, _-_, _*_, _%_, _≤_, _<_}
 use native.Mathlib.Omega.{arith}
-use native.Mathlib.Nat.{zero-add, add-zero}
+use native.Mathlib.Nat.{zero-add, add-zero, add-suc}
 use native.Mathlib.Numerals.{add-one}
 use mathlib.Core.Bool.{Bool, true, false, cond, _&&_, _||_}
 use mathlib.Core.List.{List}
 use lib.ListN.{length, getD, set, replicate, length-set, getD-replicate, List·getD-eq-default}
-use lib.Seq.{getD-set-same, getD-set-other}
+use lib.Seq.{ext-getD, getD-set-same, getD-set-other}
 use lib.Dec.{eqb, ltb}
 use borrow.Author.Tests.{eq-eqb, ne-eqb, lt-ltb, le-ltb, eqb-true, eqb-false, ltb-true, ltb-false}
 use Rattle.theory.specs.Tests.{cases, order}
@@ -24,9 +25,38 @@ use Rattle.index.specs.Layout.Code.{segmentAt-next, segmentAt-le}
 use Rattle.index.specs.Layout.Laws.{getD-listed}
 use Rattle.index.specs.Scan.{runIn}
 use Rattle.index.specs.Scan.Code.{sameTo, same-next, same-stop}
+use Rattle.tray.specs.declared.Place.{Place}
+use Rattle.walk.specs.Code.{placed, numbers, getD-numbers, length-numbers}
 use Rattle.walk.specs.Start.Code.{Probing}
 use Rattle.walk.specs.Walk.{Spot, selectorAt}
 use Rattle.walk.specs.Reads.{selectorsOf, placesAt, samePlaces, belongs}
+
+-- the first r places are copied as numbers
+pub record Copying (places : List Place) (ps : List ℕ) (r : ℕ) : Type 0 where
+  pub room : length ps ≡ 63
+  pub done : (i : ℕ) → i < r → getD ps i 0 ≡ getD places i (placed 0) .0
+
+pub copy-none : (places : List Place) → Copying places (replicate 63 0) 0
+copy-none places = record { room = refl; done = λ i l. absurd (omega arith) }
+
+pub copy-more : {places : List Place} {ps : List ℕ} {r : ℕ} → Copying places ps r → r < 63 → Copying places (set ps r (getD places r (placed 0) .0)) (r + 1)
+copy-more {places} {ps} {r} c l =
+    let room : length ps ≡ 63 = c .room in
+    record {
+      room = simp length-set room;
+      done = λ i k.
+          order i r
+          (λ b. getD-set-other ps r i (getD places r (placed 0) .0) 0 (λ z. omega arith) ∙ c .done i b)
+          (λ z. ap (λ (j : ℕ). getD (set ps r (getD places r (placed 0) .0)) j 0) z
+          ∙ getD-set-same ps r (getD places r (placed 0) .0) 0 (omega arith)
+          ∙ ap (λ (j : ℕ). getD places j (placed 0) .0) (sym z))
+          (λ a. absurd (omega arith));
+    }
+
+pub copy-end : {places : List Place} {ps : List ℕ} {r : ℕ} → Copying places ps r → 63 ≤ r → length places ≡ 63 → ps ≡ numbers places
+copy-end {places} {ps} c l e =
+    let room : length ps ≡ 63 = c .room in
+    ext-getD 0 ps (numbers places) (c .room ∙ sym (length-numbers places ∙ e)) (λ i k. c .done i (omega arith) ∙ sym (getD-numbers places i))
 
 -- the sum of k places from place r on
 unfoldable pub sumFor : ℕ → List ℕ → ℕ → ℕ
@@ -217,23 +247,44 @@ segment-inside {h} {x} {d} {n} p {g} {at} l e =
     let whole : length x ≡ segmentAt h d n = p .whole in
     omega arith
 
+-- numbers that differ among the first h differ among more
+same-far : (xs ys : List ℕ) (h k : ℕ) → sameTo xs ys h ≡ false → sameTo xs ys (h + k) ≡ false
+unfolding sameTo
+same-far xs ys h zero e = rw add-zero e
+same-far xs ys h (suc k) e = rw (add-suc, same-far xs ys h k e) (and-off (eqb (getD xs (h + k) 0) (getD ys (h + k) 0)))
+  where
+    and-off : (b : Bool) → (b && false) ≡ false
+    and-off true = refl
+    and-off false = refl
+
 -- a cursor stands at a selector of a segment
-module _ {h : ℕ} {x : List ℕ} {d m : ℕ} (p : Probing x h d m) (few : h ≤ 63) (ps : List ℕ) (g s : ℕ) {n e : ℕ} (runs : e ≡ h) (sum : n ≡ sumFor (63 - e) ps e) where
+module _ {h : ℕ} {x : List ℕ} {d m : ℕ} (p : Probing x h d m) (few : h ≤ 63) (ps : List ℕ) (g s : ℕ) {at first : ℕ} {seen : List ℕ} {b : Bool} (a : at ≡ segmentAt h d g)
+    (f : first ≡ at + 8 + 2 * h) (c : Tallied x first s seen) (told : b ≡ sameTo ps (wantedAt h x at seen) h) where
   past : (r : ℕ) → h ≤ r → r < 63 → getD (placesAt h x g s) r 0 ≡ 0
   unfolding placesAt
   past r l k =
       getD-listed 63 0 (λ i. cond (ltb i h) (offsetFrom x (segmentAt h (sizeOf x) g) i + selectorsOf h x g i s) 0) r 0 k
       ∙ rw (zero-add, le-ltb r h l)
 
-  sums : n ≡ sumFor (63 - h) ps h
-  sums = sum ∙ ap (λ (i : ℕ). sumFor (63 - i) ps i) runs
+  held : b ≡ sameTo ps (placesAt h x g s) h
+  held = told ∙ ap (λ (qs : List ℕ). sameTo ps qs h) (wanted-is p g a f few c)
 
-  pub stands-told : {at first : ℕ} {seen : List ℕ} {b : Bool} → n ≡ 0 → at ≡ segmentAt h d g → first ≡ at + 8 + 2 * h → Tallied x first s seen
-      → b ≡ sameTo ps (wantedAt h x at seen) h → b ≡ samePlaces ps (placesAt h x g s)
-  stands-told z a f c told = told ∙ ap (λ (qs : List ℕ). sameTo ps qs h) (wanted-is p g a f few c) ∙ sum-same ps (placesAt h x g s) h few past sums z
+  -- where the tray's runs hold, the others decide,
+  pub stands-told : {n e : ℕ} → b ≡ true → e ≡ h → n ≡ sumFor (63 - e) ps e → eqb n 0 ≡ samePlaces ps (placesAt h x g s)
+  stands-told {n} {e} y runs sum =
+      cases (eqb n 0)
+      (λ z. z ∙ sym (sym held ∙ y) ∙ sum-same ps (placesAt h x g s) h few past sums (eqb-true n 0 z))
+      (λ z. z ∙ sum-off ps (placesAt h x g s) h few past sums (eqb-false n 0 z))
+    where
+      sums : n ≡ sumFor (63 - h) ps h
+      sums = sum ∙ ap (λ (i : ℕ). sumFor (63 - i) ps i) runs
 
-  pub stands-off : (n ≡ 0 → ⊥) → false ≡ samePlaces ps (placesAt h x g s)
-  stands-off off = sum-off ps (placesAt h x g s) h few past sums off
+  -- and else nothing does
+  pub stands-off : b ≡ false → false ≡ samePlaces ps (placesAt h x g s)
+  unfolding samePlaces
+  stands-off n =
+      let z : h + (63 - h) ≡ 63 = omega arith in
+      sym (ap (sameTo ps (placesAt h x g s)) (sym z) ∙ same-far ps (placesAt h x g s) h (63 - h) (sym held ∙ n))
 
 -- a cursor belongs
 module _ {h : ℕ} {x : List ℕ} {d n : ℕ} (p : Probing x h d n) (c : Spot) where
