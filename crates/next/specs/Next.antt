@@ -14,7 +14,7 @@ use native.Mathlib.Omega.{arith}
 use native.Mathlib.Nat.{zero-add}
 use mathlib.Core.Bool.{Bool, true, false, cond, _&&_, _||_}
 use mathlib.Core.List.{List}
-use lib.ListN.{length, getD}
+use lib.ListN.{length, getD, length-set}
 use lib.Dec.{eqb, ltb}
 use borrow.Author.Tests.{lt-ltb, le-ltb, eq-eqb, ne-eqb, eqb-true, eqb-false, ltb-true}
 use Rattle.theory.specs.Tests.{cases, clash, never, and-left, and-right}
@@ -31,7 +31,7 @@ use Rattle.walk.specs.declared.cursor.Cursor.{Cursor}
 use Rattle.walk.specs.Start.Code.{Probing}
 use Rattle.walk.specs.Walk.{Spot, Visit, stay, go, Walked, stayed, lost, loaded, named, selectorAt, walkSelectors, walkSegments, walkFrom}
 use Rattle.walk.specs.Reads.{Found, unmarked, foundBy, nextVisit, next}
-use Rattle.walk.specs.Code.{placed, numbers, getD-numbers, Walking, spotOf, Selecting, selectors-pass, selectors-lost, selectors-go}
+use Rattle.walk.specs.Code.{placed, numbers, getD-numbers, length-numbers, Walking, spotOf, Selecting, selectors-pass, selectors-lost, selectors-go}
 use Rattle.walk.specs.Code.Moves.{pastGap, pastRecord}
 use Rattle.walk.specs.Code.Turns.{Here, here-from}
 use Rattle.walk.specs.Answers.Code.{walking}
@@ -82,9 +82,9 @@ going {t} o l =
 unfoldable pub visibleVisit : ℕ → Spot → ℕ → Visit ℕ Found
 visibleVisit v c st = cond (unmarked v) (stay (foundBy v c)) (go st)
 
--- the walk from here answers for the walk from a cursor on,
-abbrev pub Outer : List ℕ → List ℕ → ℕ → ℕ → Cursor → ℕ → ℕ → Cursor → Type 0
-Outer t x d n from g s at = Here t x visibleVisit d n (walkFrom t x visibleVisit (spotOf from) 0) g s (at .places) 0
+-- the walk from here answers for the walk past a cursor's selector v,
+abbrev pub Outer : List ℕ → List ℕ → ℕ → ℕ → Cursor → ℕ → ℕ → ℕ → Cursor → Type 0
+Outer t x d n from v g s at = Here t x visibleVisit d n (walkFrom t x visibleVisit (passedBy v (spotOf from)) 0) g s (at .places) 0
 
 -- and for the walk from a selector of this segment on
 abbrev pub Inner : List ℕ → List ℕ → ℕ → ℕ → ℕ → ℕ → Cursor → ℕ → Cursor → Type 0
@@ -173,6 +173,20 @@ passed-within v e c {d} {n} m l k = cases (eqb v 63) (λ y. at (numbers (c .plac
         let s : e .selector ≡ c .selector + 1 = ap (λ (p : Spot). p .selector) z in
         (omega arith, omega arith)
 
+-- and has as many places
+pub passed-room : (v : ℕ) (e c : Cursor) → spotOf e ≡ passedBy v (spotOf c) → length (c .places) ≡ 63 → length (e .places) ≡ 63
+unfolding spotOf passedBy pastGap pastRecord raise
+passed-room v e c m r = cases (eqb v 63) (λ y. at (numbers (c .places)) kept (m ∙ rw y)) (λ f. at (raise (numbers (c .places)) (runIn v)) raised (m ∙ rw f))
+  where
+    kept : length (numbers (c .places)) ≡ 63
+    kept = length-numbers (c .places) ∙ r
+
+    raised : length (raise (numbers (c .places)) (runIn v)) ≡ 63
+    raised = simp length-set kept
+
+    at : (ps : List ℕ) → length ps ≡ 63 → spotOf e ≡ record { segment = c .segment .0; selector = c .selector + 1; places = ps } → length (e .places) ≡ 63
+    at ps k z = sym (length-numbers (e .places)) ∙ ap (λ (p : Spot). length (p .places)) z ∙ k
+
 -- the two ways past a selector
 pub passed-gap : {v : ℕ} (c : Spot) {e : Spot} → v ≡ 63 → e ≡ pastGap c → e ≡ passedBy v c
 unfolding passedBy
@@ -249,13 +263,11 @@ module _ {t x : List ℕ} {h d n : ℕ} (w : Going t x h d n) (c : Cursor) (insi
     may : (eqb v 63 || named t (numbers (c .places)) v) ≡ b
     may = ap (λ (qs : List ℕ). eqb v 63 || named t qs v) (sym places) ∙ sym told
 
-    pub next-passed : {e : Spot} → b ≡ true → e ≡ passedBy v (spotOf c) → walkFrom t x visibleVisit e 0 ≡ next t x (spotOf c)
+    pub next-passed : b ≡ true → walkFrom t x visibleVisit (passedBy v (spotOf c)) 0 ≡ next t x (spotOf c)
     unfolding passedBy
-    next-passed y m =
-        cases (eqb v 63)
-        (λ g. ap (λ (e : Spot). walkFrom t x visibleVisit e 0) (m ∙ rw g) ∙ gap-passed (eqb-true v 63 g))
-        (λ k. ap (λ (e : Spot). walkFrom t x visibleVisit e 0) (m ∙ rw k)
-        ∙ record-passed (eqb-false v 63 k) (may-named t (numbers (c .places)) v (eqb-false v 63 k) (may ∙ y)))
+    next-passed y =
+        cases (eqb v 63) (λ g. rw g (gap-passed (eqb-true v 63 g)))
+        (λ k. rw k (record-passed (eqb-false v 63 k) (may-named t (numbers (c .places)) v (eqb-false v 63 k) (may ∙ y))))
 
     -- the loss rule
     pub next-lost : b ≡ false → lost (c .segment .0) (c .selector) 0 ≡ next t x (spotOf c)

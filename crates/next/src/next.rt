@@ -62,13 +62,18 @@ fn found_next(mut cursor: Cursor, g: u32, s: usize, v: u8, p: Place) -> Seeks
     }
 }
 
-// The first visible record at or after the cursor c, which is not the end, as next tells it from another one. It reads counts and index bytes,
-// and no record. The places stay in the cursor, and are copied once, at the end.
-fn first_from(t: &[u8], x: &[u8], h: u8, d: u8, n: u32, from: Cursor, mut at: Cursor) -> Seeks
+// The first visible record past the cursor's own selector, which the cursor passes by its moves. The walk reads counts and index bytes, and no
+// record. The places stay in the moved cursor: made by one move in either case, it is the only copy until the walk ends.
+fn first_from(t: &[u8], x: &[u8], h: u8, d: u8, n: u32, from: Cursor, here: u8) -> Seeks
     requires { ⌜ Going (now t) (now x) h d n ⌝ }
-    requires { ⌜ (at .segment .0 < n) × (at .selector ≤ d) ⌝ }
-    ensures { λ r. ⌜ r ≡ nextTold (now (x .entry)) from (walkFrom (now (t .entry)) (now (x .entry)) visibleVisit (spotOf at) 0) ⌝ }
+    requires { ⌜ (from .segment .0 < n) × (from .selector < d) ⌝ }
+    requires { ⌜ ((here ≡ 63 → ⊥) → here % 64 < 63) × ((here ≡ 63 → ⊥) → getD (from .places) (here % 64) (placed 0) .0 < 65535) ⌝ }
+    ensures { λ r. ⌜ r ≡ nextTold (now (x .entry)) from (walkFrom (now (t .entry)) (now (x .entry)) visibleVisit (passedBy here (spotOf from)) 0) ⌝ }
 {
+    let mut at = from.past_gap();
+    if here != 63 {
+        at = from.past_record(RunNo(here % 64));
+    }
     let mut g = at.segment.0;
     let size = wide_size(d);
     let mut s = wide_size(at.selector);
@@ -123,18 +128,6 @@ fn passes(t: &[u8], h: u8, places: &[u16; 63], v: u8) -> bool
     false
 }
 
-// The cursor past its selector v, by its own moves.
-fn passed(from: Cursor, v: u8) -> Cursor
-    requires { ⌜ from .selector < 255 ⌝ }
-    requires { ⌜ ((v ≡ 63 → ⊥) → v % 64 < 63) × ((v ≡ 63 → ⊥) → getD (from .places) (v % 64) (placed 0) .0 < 65535) ⌝ }
-    ensures { λ c. ⌜ spotOf c ≡ passedBy v (spotOf from) ⌝ }
-{
-    if v == 63 {
-        return from.past_gap();
-    }
-    from.past_record(RunNo(v % 64))
-}
-
 // Next from a cursor that is not the end: the current selector is judged by the loss rule, marked or not, and passed.
 pub fn next_from(
     t: &[u8],
@@ -154,7 +147,7 @@ pub fn next_from(
     let s = from.selector;
     let v = x[segment_at(g, h, d) + 8 + 2 * wide_size(h) + wide_size(s)];
     if passes(t, h, places, v) {
-        return first_from(t, x, h, d, n, from, passed(from, v));
+        return first_from(t, x, h, d, n, from, v);
     }
     next_refused(from, Refusal::Lost(g.0, wide32(s)))
 }

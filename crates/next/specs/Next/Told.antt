@@ -1,5 +1,5 @@
 -- The turns and the ends of the walk of next, as its code comes to them.
---     starts                           the walk starts at a cursor
+--     starts                           the walk starts at the moved cursor
 --     on-gap, on-go, on-stay           past a selector, or at it
 --     lost-run, lost-place             the loss rule
 --     told-found, told-lost, told-end  what next tells of the end of the walk
@@ -22,17 +22,20 @@ use Rattle.walk.specs.declared.calls.SeekAnswer.the-variants.{Found as FoundAt,
 use Rattle.walk.specs.Walk.{Spot, Walked, stayed, ended, lost, selectorAt, named, walkFrom}
 use Rattle.walk.specs.Reads.{Found, endSpot, foundBy}
 use Rattle.walk.specs.Code.{placed, numbers, getD-numbers, raise-numbers, spotOf, selectors-pass, selectors-lost, selectors-stay, selectors-go}
-use Rattle.walk.specs.Code.Turns.{Here, here-from, named-run, named-yes, named-past, count-is}
+use Rattle.walk.specs.Code.Turns.{Here, here-from, here-into, named-run, named-yes, named-past, count-is}
 use Rattle.walk.specs.Answers.{cursorOf}
 use Rattle.walk.specs.Answers.Code.{cursor-back}
 use Rattle.next.specs.Answers.{refusedNext, nextTold, endAt, foundNext}
-use Rattle.next.specs.Next.{Going, walks, visibleVisit, visible-go, visible-stay}
+use Rattle.next.specs.Next.{Going, walks, passedBy, passed-within, passed-room, visibleVisit, visible-go, visible-stay}
 
--- the walk starts at a cursor
-pub starts : {t x : List ℕ} {h d n : ℕ} → Going t x h d n → (c : Cursor) {s : ℕ} → s ≡ c .selector → c .segment .0 < n → c .selector ≤ d → length (c .places) ≡ 63
-    → Here t x visibleVisit d n (walkFrom t x visibleVisit (spotOf c) 0) (c .segment .0) s (c .places) 0
-starts {t} {x} {h} {d} {n} w c e l k r =
-    subst (λ (j : ℕ). Here t x visibleVisit d n (walkFrom t x visibleVisit (spotOf c) 0) (c .segment .0) j (c .places) 0) (sym e) (here-from (walks w) c 0 l k r)
+-- the walk starts at the moved cursor
+pub starts : {t x : List ℕ} {h d n : ℕ} → Going t x h d n → (v : ℕ) (from at : Cursor) {s : ℕ} → spotOf at ≡ passedBy v (spotOf from) → s ≡ at .selector
+    → from .segment .0 < n → from .selector < d → length (from .places) ≡ 63
+    → Here t x visibleVisit d n (walkFrom t x visibleVisit (passedBy v (spotOf from)) 0) (at .segment .0) s (at .places) 0
+starts {t} {x} {h} {d} {n} w v from at m e l k r =
+    let inside = passed-within v at from m l k in
+    subst (λ (j : ℕ). Here t x visibleVisit d n (walkFrom t x visibleVisit (passedBy v (spotOf from)) 0) (at .segment .0) j (at .places) 0) (sym e)
+    (here-into (walks w) (here-from (walks w) at 0 (inside .0) (inside .1) (passed-room v at from m r)) (ap (λ (c : Spot). walkFrom t x visibleVisit c 0) m))
 
 -- what next tells of the end of the walk
 module _ (x : List ℕ) (from : Cursor) {whole : Walked ℕ Found} {r : Seeks} where

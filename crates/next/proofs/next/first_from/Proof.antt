@@ -1,11 +1,13 @@
--- `next::next::first_from` meets its contract. Assumes nothing.
+-- `next::next::first_from` meets its contract. Invariant: the walk from here answers for the walk past the cursor's selector. Measures: what is
+-- left of the segment, and of the segments. Assumes nothing.
 use Rattle.next.specs.Next.Told.{starts, on-gap, on-go, on-stay, lost-run, lost-place, may-raise, told-found, told-lost, told-end}
-use Rattle.next.specs.Next.{walks}
+use Rattle.next.specs.Next.{Inner, Outer, walks, passed-gap, passed-record}
 use Rattle.walk.specs.Code.Turns.{within, selector-is, here-at, here-whole, here-into, here-end, here-enter}
+use Rattle.walk.specs.Code.{spotOf}
 use lib.ListN.{length-map}
-use mathlib.Core.Path.{refl, sym, _∙_}
 use Prim.Native.Nat.{_-_}
-use Rattle.next.specs.Next.{Inner, Outer}
+use mathlib.Core.Logic.{⊎-elim}
+use mathlib.Core.Path.{refl, sym, ap, _∙_}
 use native.Mathlib.Omega.{arith}
 use borrow.Author.Needs.{needs}
 use Rattle.next.proofs.next.first_from.Statement.{statement}
@@ -18,175 +20,185 @@ use Rattle.next.proofs.next.next_ends.Reads as next-ends-reads
 use Rattle.next.proofs.next.next_refused.Reads as next-refused-reads
 use Rattle.number.proofs.wide_size.Reads as wide-size-reads
 use Rattle.tray.proofs.frame.count_of.Reads as count-of-reads
+use Rattle.walk.proofs.cursor.Cursor.past_gap.Reads as past-gap-reads
+use Rattle.walk.proofs.cursor.Cursor.past_record.Reads as past-record-reads
 use Rattle.walk.proofs.cursor.load.Reads as load-reads
 
 abbrev Inv-loop : tie.InvT-loop
-Inv-loop t x h d n from at₀ g size s₀ first at s = Inner t x d n g s₀ at₀ s at
+Inv-loop t x h d n from here at₀ g size s₀ first at s = Inner t x d n g s₀ at₀ s at
 
 abbrev μ-loop : tie.MeasureT-loop
-μ-loop t x h d n from at₀ g size s₀ first at s = size - s
+μ-loop t x h d n from here at₀ g size s₀ first at s = size - s
 
 abbrev Inv-walk : tie.InvT-walk
-Inv-walk t x h d n from at₀ g₀ size s₀ at g s = Outer t x d n at₀ g s at
+Inv-walk t x h d n from here at₀ g₀ size s₀ at g s = Outer t x d n from here g s at
 
 abbrev μ-walk : tie.MeasureT-walk
-μ-walk t x h d n from at₀ g₀ size s₀ at g s = n - g
+μ-walk t x h d n from here at₀ g₀ size s₀ at g s = n - g
 
--- src/next.rt:73:9
+-- src/next.rt:73:18
+past-gap-requires : tie.Need-past-gap-requires Inv-loop μ-loop Inv-walk μ-walk
+past-gap-requires c κs = omega (arith, c .before .before .pre .1 .0 .1)
+
+-- src/next.rt:75:14
+past-record-requires : tie.Need-past-record-requires Inv-loop μ-loop Inv-walk μ-walk
+past-record-requires c κs = (omega (arith, c .before .before .before .before .pre .1 .0 .1), c .before .before .before .before .pre .1 .1 .0 (c .if1 .taken), c .before .before .before .before .pre .1 .1 .1 (c .if1 .taken))
+
+-- src/next.rt:78:9
 wide-size-requires : tie.Need-wide-size-requires Inv-loop μ-loop Inv-walk μ-walk
 wide-size-requires c κs = search needs
 
--- src/next.rt:74:9
+-- src/next.rt:79:9
 wide-size-requires-2 : tie.Need-wide-size-requires-2 Inv-loop μ-loop Inv-walk μ-walk
 wide-size-requires-2 c κs = search needs
 
--- src/next.rt:75:5
+-- src/next.rt:80:5
 walk-holds : tie.Need-walk-holds Inv-loop μ-loop Inv-walk μ-walk
-walk-holds c = starts (c .before .before .before .before .pre .0) _ (c .wide-size2 .ensures) (c .before .before .before .before .pre .1 .0) (c .before .before .before .before .pre .1 .1) (sym (length-map (c .before .before .before .before .args .t7 .places) _) ∙ c .before .before .before .before .good .1 .1 .1 .1 .1 .1 .0 .1 .1 .1 .1 .0 .1 .0 .1)
+walk-holds c = starts (c .before .before .before .before .before .before .pre .0) _ (c .before .before .before .before .before .before .args .from) _ (⊎-elim (λ w. ap spotOf (w .2) ∙ passed-record _ (w .0 .taken) (w .1 .ensures)) (λ w. ap spotOf (w .1) ∙ passed-gap _ (w .0 .left) (c .before .before .before .past-gap .ensures)) (c .before .before .if1 .came)) (c .wide-size2 .ensures) (c .before .before .before .before .before .before .pre .1 .0 .0) (c .before .before .before .before .before .before .pre .1 .0 .1) (sym (length-map (c .before .before .before .before .before .before .args .from .places) _) ∙ c .before .before .before .before .before .before .good .1 .1 .1 .1 .1 .0 .1 .1 .1 .1 .0 .1 .0 .1)
 
--- src/next.rt:76:21
+-- src/next.rt:81:21
 segment-at-requires : tie.Need-segment-at-requires Inv-loop μ-loop Inv-walk μ-walk
 segment-at-requires c κs = search needs
 
--- src/next.rt:76:21
+-- src/next.rt:81:21
 add-first : tie.Need-add-first Inv-loop μ-loop Inv-walk μ-walk
-add-first c = omega (arith, within (walks (c .before .before .before .before .before .before .pre .0)) (c .before .walk .inv .on .inside) (c .segment-at .ensures))
+add-first c = omega (arith, within (walks (c .before .before .before .before .before .before .before .before .pre .0)) (c .before .walk .inv .on .inside) (c .segment-at .ensures))
 
--- src/next.rt:76:62
+-- src/next.rt:81:62
 wide-size-requires-3 : tie.Need-wide-size-requires-3 Inv-loop μ-loop Inv-walk μ-walk
 wide-size-requires-3 c κs = search needs
 
--- src/next.rt:76:58
+-- src/next.rt:81:58
 mul-first : tie.Need-mul-first Inv-loop μ-loop Inv-walk μ-walk
 mul-first c = omega (arith, c .wide-size3 .ensures)
 
--- src/next.rt:76:21
+-- src/next.rt:81:21
 add-first-2 : tie.Need-add-first-2 Inv-loop μ-loop Inv-walk μ-walk
-add-first-2 c = omega (arith, within (walks (c .before .before .before .before .before .before .before .pre .0)) (c .before .before .walk .inv .on .inside) (c .before .segment-at .ensures), c .wide-size3 .ensures)
+add-first-2 c = omega (arith, within (walks (c .before .before .before .before .before .before .before .before .before .pre .0)) (c .before .before .walk .inv .on .inside) (c .before .segment-at .ensures), c .wide-size3 .ensures)
 
--- src/next.rt:77:9
+-- src/next.rt:82:9
 loop-holds : tie.Need-loop-holds Inv-loop μ-loop Inv-walk μ-walk
-loop-holds c = here-at (walks (c .before .before .before .before .before .before .before .pre .0)) _ _ _ 0 (c .before .before .walk .inv .on .inside) (c .before .before .walk .inv .on .high) (c .before .before .walk .inv .room)
+loop-holds c = here-at (walks (c .before .before .before .before .before .before .before .before .before .pre .0)) _ _ _ 0 (c .before .before .walk .inv .on .inside) (c .before .before .walk .inv .on .high) (c .before .before .walk .inv .room)
 
--- src/next.rt:78:23
+-- src/next.rt:83:23
 add-v : tie.Need-add-v Inv-loop μ-loop Inv-walk μ-walk
-add-v c = omega (arith, within (walks (c .before .before .before .before .before .before .before .before .before .pre .0)) (c .before .before .before .before .walk .inv .on .inside) (c .before .before .before .segment-at .ensures), c .before .before .wide-size3 .ensures, c .before .before .before .before .before .before .wide-size .ensures)
+add-v c = omega (arith, within (walks (c .before .before .before .before .before .before .before .before .before .before .before .pre .0)) (c .before .before .before .before .walk .inv .on .inside) (c .before .before .before .segment-at .ensures), c .before .before .wide-size3 .ensures, c .before .before .before .before .before .before .wide-size .ensures)
 
--- src/next.rt:78:21
+-- src/next.rt:83:21
 shared-slice-read-v : tie.Need-shared-slice-read-v Inv-loop μ-loop Inv-walk μ-walk
-shared-slice-read-v c = omega (arith, within (walks (c .before .before .before .before .before .before .before .before .before .before .pre .0)) (c .before .before .before .before .before .walk .inv .on .inside) (c .before .before .before .before .segment-at .ensures), c .before .before .before .wide-size3 .ensures, c .before .before .before .before .before .before .before .wide-size .ensures)
+shared-slice-read-v c = omega (arith, within (walks (c .before .before .before .before .before .before .before .before .before .before .before .before .pre .0)) (c .before .before .before .before .before .walk .inv .on .inside) (c .before .before .before .before .segment-at .ensures), c .before .before .before .wide-size3 .ensures, c .before .before .before .before .before .before .before .wide-size .ensures)
 
--- src/next.rt:80:17
+-- src/next.rt:85:17
 add-s : tie.Need-add-s Inv-loop μ-loop Inv-walk μ-walk
 add-s c = omega arith
 
--- src/next.rt:77:9
+-- src/next.rt:82:9
 loop-less : tie.Need-loop-less Inv-loop μ-loop Inv-walk μ-walk
 loop-less c = omega arith
 
--- src/next.rt:77:9
+-- src/next.rt:82:9
 loop-again : tie.Need-loop-again Inv-loop μ-loop Inv-walk μ-walk
-loop-again c = on-gap (c .before .before .before .before .before .before .before .before .before .before .before .pre .0) (c .before .before .before .loop .inv) (omega (arith, c .before .before .loop-test .taken, c .before .before .before .before .before .before .before .before .wide-size .ensures)) (selector-is (walks (c .before .before .before .before .before .before .before .before .before .before .before .pre .0)) _ _ (c .before .before .before .before .before .segment-at .ensures) (omega (arith, c .before .before .before .before .wide-size3 .ensures)) refl) (c .if1 .taken)
+loop-again c = on-gap (c .before .before .before .before .before .before .before .before .before .before .before .before .before .pre .0) (c .before .before .before .loop .inv) (omega (arith, c .before .before .loop-test .taken, c .before .before .before .before .before .before .before .before .wide-size .ensures)) (selector-is (walks (c .before .before .before .before .before .before .before .before .before .before .before .before .before .pre .0)) _ _ (c .before .before .before .before .before .segment-at .ensures) (omega (arith, c .before .before .before .before .wide-size3 .ensures)) refl) (c .if2 .taken)
 
--- src/next.rt:85:21
+-- src/next.rt:90:21
 wide-size-requires-4 : tie.Need-wide-size-requires-4 Inv-loop μ-loop Inv-walk μ-walk
 wide-size-requires-4 c κs = search needs
 
--- src/next.rt:86:25
+-- src/next.rt:91:25
 mul-p : tie.Need-mul-p Inv-loop μ-loop Inv-walk μ-walk
 mul-p c = omega arith
 
--- src/next.rt:86:25
+-- src/next.rt:91:25
 element-copy-out-p : tie.Need-element-copy-out-p Inv-loop μ-loop Inv-walk μ-walk
-element-copy-out-p c = omega (arith, c .before .before .before .before .before .before .before .before .before .before .before .before .before .pre .0 .few, c .wide-size4 .ensures)
+element-copy-out-p c = omega (arith, c .before .before .before .before .before .before .before .before .before .before .before .before .before .before .before .pre .0 .few, c .wide-size4 .ensures)
 
--- src/next.rt:88:24
+-- src/next.rt:93:24
 count-of-requires : tie.Need-count-of-requires Inv-loop μ-loop Inv-walk μ-walk
-count-of-requires c κs = omega (arith, c .before .before .before .before .before .before .before .before .before .before .before .before .before .before .pre .0 .header, c .before .before .if2 .taken)
+count-of-requires c κs = omega (arith, c .before .before .before .before .before .before .before .before .before .before .before .before .before .before .before .before .pre .0 .header, c .before .before .if3 .taken)
 
--- src/next.rt:90:37
+-- src/next.rt:95:37
 found-next-requires : tie.Need-found-next-requires Inv-loop μ-loop Inv-walk μ-walk
 found-next-requires c κs = omega (arith, c .before .before .before .before .before .before .before .before .loop-test .taken, c .before .before .before .before .before .before .before .before .before .before .before .before .before .before .wide-size .ensures)
 
--- src/next.rt:92:42
-add-t39 : tie.Need-add-t39 Inv-loop μ-loop Inv-walk μ-walk
-add-t39 c = omega (arith, may-raise (c .before .before .before .before .before .before .before .before .before .before .before .before .before .before .before .before .before .pre .0) (c .before .before .before .before .before .before .before .before .before .loop .inv) (omega (arith, c .before .before .before .before .before .before .before .before .loop-test .taken, c .before .before .before .before .before .before .before .before .before .before .before .before .before .before .wide-size .ensures)) (selector-is (walks (c .before .before .before .before .before .before .before .before .before .before .before .before .before .before .before .before .before .pre .0)) _ _ (c .before .before .before .before .before .before .before .before .before .before .before .segment-at .ensures) (omega (arith, c .before .before .before .before .before .before .before .before .before .before .wide-size3 .ensures)) refl) (c .before .before .before .before .before .before .if1 .left) (c .before .before .before .before .before .if2 .taken) (c .before .before .before .before .wide-size4 .ensures) (c .before .before .count-of .ensures) (c .before .if3 .taken))
+-- src/next.rt:97:42
+add-t44 : tie.Need-add-t44 Inv-loop μ-loop Inv-walk μ-walk
+add-t44 c = omega (arith, may-raise (c .before .before .before .before .before .before .before .before .before .before .before .before .before .before .before .before .before .before .before .pre .0) (c .before .before .before .before .before .before .before .before .before .loop .inv) (omega (arith, c .before .before .before .before .before .before .before .before .loop-test .taken, c .before .before .before .before .before .before .before .before .before .before .before .before .before .before .wide-size .ensures)) (selector-is (walks (c .before .before .before .before .before .before .before .before .before .before .before .before .before .before .before .before .before .before .before .pre .0)) _ _ (c .before .before .before .before .before .before .before .before .before .before .before .segment-at .ensures) (omega (arith, c .before .before .before .before .before .before .before .before .before .before .wide-size3 .ensures)) refl) (c .before .before .before .before .before .before .if2 .left) (c .before .before .before .before .before .if3 .taken) (c .before .before .before .before .wide-size4 .ensures) (c .before .before .count-of .ensures) (c .before .if4 .taken))
 
--- src/next.rt:92:21
-mul-t41 : tie.Need-mul-t41 Inv-loop μ-loop Inv-walk μ-walk
-mul-t41 c = omega arith
+-- src/next.rt:97:21
+mul-t46 : tie.Need-mul-t46 Inv-loop μ-loop Inv-walk μ-walk
+mul-t46 c = omega arith
 
--- src/next.rt:92:21
+-- src/next.rt:97:21
 element-set-from-at : tie.Need-element-set-from-at Inv-loop μ-loop Inv-walk μ-walk
-element-set-from-at c = omega (arith, c .before .before .before .before .before .before .before .before .before .before .before .before .before .before .before .before .before .pre .0 .few, c .before .before .before .before .wide-size4 .ensures)
+element-set-from-at c = omega (arith, c .before .before .before .before .before .before .before .before .before .before .before .before .before .before .before .before .before .before .before .pre .0 .few, c .before .before .before .before .wide-size4 .ensures)
 
--- src/next.rt:93:21
+-- src/next.rt:98:21
 add-s-2 : tie.Need-add-s-2 Inv-loop μ-loop Inv-walk μ-walk
 add-s-2 c = omega arith
 
--- src/next.rt:77:9
+-- src/next.rt:82:9
 loop-less-2 : tie.Need-loop-less-2 Inv-loop μ-loop Inv-walk μ-walk
 loop-less-2 c = omega arith
 
--- src/next.rt:77:9
+-- src/next.rt:82:9
 loop-again-2 : tie.Need-loop-again-2 Inv-loop μ-loop Inv-walk μ-walk
-loop-again-2 c = on-go (c .before .before .before .before .before .before .before .before .before .before .before .before .before .before .before .before .before .pre .0) (c .before .before .before .before .before .before .before .before .before .loop .inv) (omega (arith, c .before .before .before .before .before .before .before .before .loop-test .taken, c .before .before .before .before .before .before .before .before .before .before .before .before .before .before .wide-size .ensures)) (selector-is (walks (c .before .before .before .before .before .before .before .before .before .before .before .before .before .before .before .before .before .pre .0)) _ _ (c .before .before .before .before .before .before .before .before .before .before .before .segment-at .ensures) (omega (arith, c .before .before .before .before .before .before .before .before .before .before .wide-size3 .ensures)) refl) (c .before .before .before .before .before .before .if1 .left) (c .before .before .before .before .before .if2 .taken) (c .before .before .before .before .wide-size4 .ensures) (c .before .before .count-of .ensures) (c .before .if3 .taken) (c .if4 .left)
+loop-again-2 c = on-go (c .before .before .before .before .before .before .before .before .before .before .before .before .before .before .before .before .before .before .before .pre .0) (c .before .before .before .before .before .before .before .before .before .loop .inv) (omega (arith, c .before .before .before .before .before .before .before .before .loop-test .taken, c .before .before .before .before .before .before .before .before .before .before .before .before .before .before .wide-size .ensures)) (selector-is (walks (c .before .before .before .before .before .before .before .before .before .before .before .before .before .before .before .before .before .before .before .pre .0)) _ _ (c .before .before .before .before .before .before .before .before .before .before .before .segment-at .ensures) (omega (arith, c .before .before .before .before .before .before .before .before .before .before .wide-size3 .ensures)) refl) (c .before .before .before .before .before .before .if2 .left) (c .before .before .before .before .before .if3 .taken) (c .before .before .before .before .wide-size4 .ensures) (c .before .before .count-of .ensures) (c .before .if4 .taken) (c .if5 .left)
 
--- src/next.rt:96:65
-cast-t44 : tie.Need-cast-t44 Inv-loop μ-loop Inv-walk μ-walk
-cast-t44 c = omega arith
+-- src/next.rt:101:65
+cast-t49 : tie.Need-cast-t49 Inv-loop μ-loop Inv-walk μ-walk
+cast-t49 c = omega arith
 
--- src/next.rt:96:29
+-- src/next.rt:101:29
 next-refused-requires : tie.Need-next-refused-requires Inv-loop μ-loop Inv-walk μ-walk
 next-refused-requires c κs = search needs
 
--- src/next.rt:98:61
-cast-t46 : tie.Need-cast-t46 Inv-loop μ-loop Inv-walk μ-walk
-cast-t46 c = omega arith
+-- src/next.rt:103:61
+cast-t51 : tie.Need-cast-t51 Inv-loop μ-loop Inv-walk μ-walk
+cast-t51 c = omega arith
 
--- src/next.rt:98:25
+-- src/next.rt:103:25
 next-refused-requires-2 : tie.Need-next-refused-requires-2 Inv-loop μ-loop Inv-walk μ-walk
 next-refused-requires-2 c κs = search needs
 
--- src/next.rt:100:9
+-- src/next.rt:105:9
 add-g : tie.Need-add-g Inv-loop μ-loop Inv-walk μ-walk
 add-g c = omega (arith, c .before .loop .inv .on .inside)
 
--- src/next.rt:102:25
+-- src/next.rt:107:25
 next-ends-requires : tie.Need-next-ends-requires Inv-loop μ-loop Inv-walk μ-walk
 next-ends-requires c κs = search needs
 
--- src/next.rt:104:30
+-- src/next.rt:109:30
 segment-at-requires-2 : tie.Need-segment-at-requires-2 Inv-loop μ-loop Inv-walk μ-walk
 segment-at-requires-2 c κs = search needs
 
--- src/next.rt:104:13
+-- src/next.rt:109:13
 load-requires : tie.Need-load-requires Inv-loop μ-loop Inv-walk μ-walk
-load-requires c κs = (omega (arith, within (walks (c .before .before .before .before .before .before .before .before .before .before .before .pre .0)) (c .before .if5 .left) (c .segment-at2 .ensures)), c .before .before .before .before .before .before .before .before .before .before .before .pre .0 .few)
+load-requires c κs = (omega (arith, within (walks (c .before .before .before .before .before .before .before .before .before .before .before .before .before .pre .0)) (c .before .if6 .left) (c .segment-at2 .ensures)), c .before .before .before .before .before .before .before .before .before .before .before .before .before .pre .0 .few)
 
--- src/next.rt:75:5
+-- src/next.rt:80:5
 walk-less : tie.Need-walk-less Inv-loop μ-loop Inv-walk μ-walk
 walk-less c = omega arith
 
--- src/next.rt:75:5
+-- src/next.rt:80:5
 walk-again : tie.Need-walk-again Inv-loop μ-loop Inv-walk μ-walk
-walk-again c = here-into (walks (c .before .before .before .before .before .before .before .before .before .before .before .before .pre .0)) (here-enter (walks (c .before .before .before .before .before .before .before .before .before .before .before .before .pre .0)) (c .before .before .before .before .loop .inv) (omega (arith, c .before .before .before .loop-test .left, c .before .before .before .before .before .before .before .before .before .wide-size .ensures)) (c .before .before .if5 .left) (c .before .segment-at2 .ensures) (c .load .ensures)) (here-whole (walks (c .before .before .before .before .before .before .before .before .before .before .before .before .pre .0)) (c .before .before .before .before .before .before .before .walk .inv))
+walk-again c = here-into (walks (c .before .before .before .before .before .before .before .before .before .before .before .before .before .before .pre .0)) (here-enter (walks (c .before .before .before .before .before .before .before .before .before .before .before .before .before .before .pre .0)) (c .before .before .before .before .loop .inv) (omega (arith, c .before .before .before .loop-test .left, c .before .before .before .before .before .before .before .before .before .wide-size .ensures)) (c .before .before .if6 .left) (c .before .segment-at2 .ensures) (c .load .ensures)) (here-whole (walks (c .before .before .before .before .before .before .before .before .before .before .before .before .before .before .pre .0)) (c .before .before .before .before .before .before .before .walk .inv))
 
 -- src/next.rt:67:1
 returns : tie.Need-returns Inv-loop μ-loop Inv-walk μ-walk
-returns c = told-found _ _ _ _ _ (c .before .if4 .taken) (c .before .before .before .before .before .wide-size4 .ensures) (on-stay (c .before .before .before .before .before .before .before .before .before .before .before .before .before .before .before .before .before .before .pre .0) (c .before .before .before .before .before .before .before .before .before .before .loop .inv) (omega (arith, c .before .before .before .before .before .before .before .before .before .loop-test .taken, c .before .before .before .before .before .before .before .before .before .before .before .before .before .before .before .wide-size .ensures)) (selector-is (walks (c .before .before .before .before .before .before .before .before .before .before .before .before .before .before .before .before .before .before .pre .0)) _ _ (c .before .before .before .before .before .before .before .before .before .before .before .before .segment-at .ensures) (omega (arith, c .before .before .before .before .before .before .before .before .before .before .before .wide-size3 .ensures)) refl) (c .before .before .before .before .before .before .before .if1 .left) (c .before .before .before .before .before .before .if2 .taken) (c .before .before .before .before .before .wide-size4 .ensures) (c .before .before .before .count-of .ensures) (c .before .before .if3 .taken) (c .before .if4 .taken) ∙ here-whole (walks (c .before .before .before .before .before .before .before .before .before .before .before .before .before .before .before .before .before .before .pre .0)) (c .before .before .before .before .before .before .before .before .before .before .before .before .before .walk .inv)) (c .found-next .ensures)
+returns c = told-found _ _ _ _ _ (c .before .if5 .taken) (c .before .before .before .before .before .wide-size4 .ensures) (on-stay (c .before .before .before .before .before .before .before .before .before .before .before .before .before .before .before .before .before .before .before .before .pre .0) (c .before .before .before .before .before .before .before .before .before .before .loop .inv) (omega (arith, c .before .before .before .before .before .before .before .before .before .loop-test .taken, c .before .before .before .before .before .before .before .before .before .before .before .before .before .before .before .wide-size .ensures)) (selector-is (walks (c .before .before .before .before .before .before .before .before .before .before .before .before .before .before .before .before .before .before .before .before .pre .0)) _ _ (c .before .before .before .before .before .before .before .before .before .before .before .before .segment-at .ensures) (omega (arith, c .before .before .before .before .before .before .before .before .before .before .before .wide-size3 .ensures)) refl) (c .before .before .before .before .before .before .before .if2 .left) (c .before .before .before .before .before .before .if3 .taken) (c .before .before .before .before .before .wide-size4 .ensures) (c .before .before .before .count-of .ensures) (c .before .before .if4 .taken) (c .before .if5 .taken) ∙ here-whole (walks (c .before .before .before .before .before .before .before .before .before .before .before .before .before .before .before .before .before .before .before .before .pre .0)) (c .before .before .before .before .before .before .before .before .before .before .before .before .before .walk .inv)) (c .found-next .ensures)
 
 -- src/next.rt:67:1
 returns-2 : tie.Need-returns-2 Inv-loop μ-loop Inv-walk μ-walk
-returns-2 c = told-lost _ _ (lost-place (c .before .before .before .before .before .before .before .before .before .before .before .before .before .before .before .before .before .pre .0) (c .before .before .before .before .before .before .before .before .before .loop .inv) (omega (arith, c .before .before .before .before .before .before .before .before .loop-test .taken, c .before .before .before .before .before .before .before .before .before .before .before .before .before .before .wide-size .ensures)) (selector-is (walks (c .before .before .before .before .before .before .before .before .before .before .before .before .before .before .before .before .before .pre .0)) _ _ (c .before .before .before .before .before .before .before .before .before .before .before .segment-at .ensures) (omega (arith, c .before .before .before .before .before .before .before .before .before .before .wide-size3 .ensures)) refl) (c .before .before .before .before .before .before .if1 .left) (c .before .before .before .before .before .if2 .taken) (c .before .before .before .before .wide-size4 .ensures) (c .before .before .count-of .ensures) (c .before .if3 .left) ∙ here-whole (walks (c .before .before .before .before .before .before .before .before .before .before .before .before .before .before .before .before .before .pre .0)) (c .before .before .before .before .before .before .before .before .before .before .before .before .walk .inv)) (c .next-refused .ensures)
+returns-2 c = told-lost _ _ (lost-place (c .before .before .before .before .before .before .before .before .before .before .before .before .before .before .before .before .before .before .before .pre .0) (c .before .before .before .before .before .before .before .before .before .loop .inv) (omega (arith, c .before .before .before .before .before .before .before .before .loop-test .taken, c .before .before .before .before .before .before .before .before .before .before .before .before .before .before .wide-size .ensures)) (selector-is (walks (c .before .before .before .before .before .before .before .before .before .before .before .before .before .before .before .before .before .before .before .pre .0)) _ _ (c .before .before .before .before .before .before .before .before .before .before .before .segment-at .ensures) (omega (arith, c .before .before .before .before .before .before .before .before .before .before .wide-size3 .ensures)) refl) (c .before .before .before .before .before .before .if2 .left) (c .before .before .before .before .before .if3 .taken) (c .before .before .before .before .wide-size4 .ensures) (c .before .before .count-of .ensures) (c .before .if4 .left) ∙ here-whole (walks (c .before .before .before .before .before .before .before .before .before .before .before .before .before .before .before .before .before .before .before .pre .0)) (c .before .before .before .before .before .before .before .before .before .before .before .before .walk .inv)) (c .next-refused .ensures)
 
 -- src/next.rt:67:1
 returns-3 : tie.Need-returns-3 Inv-loop μ-loop Inv-walk μ-walk
-returns-3 c = told-lost _ _ (lost-run (c .before .before .before .before .before .before .before .before .before .before .before .before .before .pre .0) (c .before .before .before .before .before .loop .inv) (omega (arith, c .before .before .before .before .loop-test .taken, c .before .before .before .before .before .before .before .before .before .before .wide-size .ensures)) (selector-is (walks (c .before .before .before .before .before .before .before .before .before .before .before .before .before .pre .0)) _ _ (c .before .before .before .before .before .before .before .segment-at .ensures) (omega (arith, c .before .before .before .before .before .before .wide-size3 .ensures)) refl) (c .before .before .if1 .left) (c .before .if2 .left) ∙ here-whole (walks (c .before .before .before .before .before .before .before .before .before .before .before .before .before .pre .0)) (c .before .before .before .before .before .before .before .before .walk .inv)) (c .next-refused2 .ensures)
+returns-3 c = told-lost _ _ (lost-run (c .before .before .before .before .before .before .before .before .before .before .before .before .before .before .before .pre .0) (c .before .before .before .before .before .loop .inv) (omega (arith, c .before .before .before .before .loop-test .taken, c .before .before .before .before .before .before .before .before .before .before .wide-size .ensures)) (selector-is (walks (c .before .before .before .before .before .before .before .before .before .before .before .before .before .before .before .pre .0)) _ _ (c .before .before .before .before .before .before .before .segment-at .ensures) (omega (arith, c .before .before .before .before .before .before .wide-size3 .ensures)) refl) (c .before .before .if2 .left) (c .before .if3 .left) ∙ here-whole (walks (c .before .before .before .before .before .before .before .before .before .before .before .before .before .before .before .pre .0)) (c .before .before .before .before .before .before .before .before .walk .inv)) (c .next-refused2 .ensures)
 
 -- src/next.rt:67:1
 returns-4 : tie.Need-returns-4 Inv-loop μ-loop Inv-walk μ-walk
-returns-4 c = told-end _ _ (c .before .before .before .before .before .before .before .before .before .before .before .pre .0 .index .count) (here-end (walks (c .before .before .before .before .before .before .before .before .before .before .before .pre .0)) (c .before .before .before .loop .inv) (omega (arith, c .before .before .loop-test .left, c .before .before .before .before .before .before .before .before .wide-size .ensures)) (c .before .if5 .taken) ∙ here-whole (walks (c .before .before .before .before .before .before .before .before .before .before .before .pre .0)) (c .before .before .before .before .before .before .walk .inv)) (c .next-ends .ensures)
+returns-4 c = told-end _ _ (c .before .before .before .before .before .before .before .before .before .before .before .before .before .pre .0 .index .count) (here-end (walks (c .before .before .before .before .before .before .before .before .before .before .before .before .before .pre .0)) (c .before .before .before .loop .inv) (omega (arith, c .before .before .loop-test .left, c .before .before .before .before .before .before .before .before .wide-size .ensures)) (c .before .if6 .taken) ∙ here-whole (walks (c .before .before .before .before .before .before .before .before .before .before .before .before .before .pre .0)) (c .before .before .before .before .before .before .walk .inv)) (c .next-ends .ensures)
 
 pub first-from-spec : {M : Type 1} → statement M
 first-from-spec =
@@ -196,6 +208,8 @@ first-from-spec =
     μ-loop
     Inv-walk
     μ-walk
+    past-gap-requires
+    past-record-requires
     wide-size-requires
     wide-size-requires-2
     walk-holds
@@ -215,15 +229,15 @@ first-from-spec =
     element-copy-out-p
     count-of-requires
     found-next-requires
-    add-t39
-    mul-t41
+    add-t44
+    mul-t46
     element-set-from-at
     add-s-2
     loop-less-2
     loop-again-2
-    cast-t44
+    cast-t49
     next-refused-requires
-    cast-t46
+    cast-t51
     next-refused-requires-2
     add-g
     next-ends-requires
