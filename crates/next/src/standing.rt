@@ -12,9 +12,9 @@ ghost use Rattle.index.specs.Scan.Code.{sameTo};
 ghost use Rattle.walk.specs.Start.Code.{Probing};
 ghost use Rattle.walk.specs.Reads.{placesAt, samePlaces, belongs as belongsTo};
 ghost use Rattle.walk.specs.Code.{numbers};
-ghost use Rattle.next.specs.Standing.{sumFor, Tallied, wantedAt};
+ghost use Rattle.next.specs.Standing.{higherOf, noneFor, Tallied, wantedAt};
 
-// The number of 16 bits, as 32: sums of places need no more, and four of them are added at once.
+// The number of 16 bits, as 32: an offset and a tally add up to no more.
 fn wide_16(x: u16) -> u32
     ensures { λ n. ⌜ n ≡ x ⌝ }
     ensures { λ n. ⌜ n ≤ 65535 ⌝ }
@@ -36,18 +36,28 @@ pub fn place_numbers(places: [Place; 63]) -> [u16; 63]
     ps
 }
 
-// The sum of the places from a run on: 0 exactly where all of them are.
-fn sum_from(places: &[u16; 63], from: usize) -> u32
-    requires { ⌜ from ≤ 63 ⌝ }
-    ensures { λ n. ⌜ n ≡ sumFor (63 - from) (now (places .entry)) from ⌝ }
+// The higher of two numbers.
+fn higher(a: u16, b: u16) -> u16
+    ensures { λ n. ⌜ n ≡ higherOf a b ⌝ }
 {
-    let mut sum: u32 = 0;
+    if a < b {
+        return b;
+    }
+    a
+}
+
+// Whether the places from a run on are all 0: the highest of them is. The compiler compares eight at once.
+fn none_from(places: &[u16; 63], from: usize) -> bool
+    requires { ⌜ from ≤ 63 ⌝ }
+    ensures { λ b. ⌜ b ≡ noneFor (63 - from) (now (places .entry)) from ⌝ }
+{
+    let mut top: u16 = 0;
     let mut r = from;
     while r < 63 {
-        sum += wide_16(places[r]);
+        top = higher(top, places[r]);
         r += 1;
     }
-    sum
+    top == 0
 }
 
 // How many of the s selectors from a byte on name each run, marks aside.
@@ -55,10 +65,11 @@ fn tally(x: &[u8], first: usize, s: u8) -> [u8; 64]
     requires { ⌜ first + s ≤ length (now x) ⌝ }
     ensures { λ seen. ⌜ Tallied (now (x .entry)) first s seen ⌝ }
 {
+    let end = wide_size(s);
     let mut seen = [0u8; 64];
-    let mut i: u8 = 0;
-    while i < s {
-        let v = x[first + wide_size(i)];
+    let mut i: usize = 0;
+    while i < end {
+        let v = x[first + i];
         let r = wide_size(v % 64);
         seen[r] += 1;
         i += 1;
@@ -93,7 +104,7 @@ fn stands(x: &[u8], h: u8, d: u8, n: u32, g: SegmentNo, s: u8, places: &[u16; 63
     let end = wide_size(h);
     let seen = tally(x, at + 8 + 2 * end, s);
     if places_hold(x, at, h, &seen, places) {
-        return sum_from(places, end) == 0;
+        return none_from(places, end);
     }
     false
 }
@@ -113,7 +124,7 @@ pub fn belongs(x: &[u8], h: u8, d: u8, n: u32, g: SegmentNo, s: u8, places: &[u1
     }
     if segment == n {
         if s == 0 {
-            return sum_from(places, 0) == 0;
+            return none_from(places, 0);
         }
     }
     false
