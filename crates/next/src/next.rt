@@ -63,13 +63,14 @@ fn found_next(mut cursor: Cursor, g: u32, s: usize, v: u8, p: Place) -> Seeks
 }
 
 // The first visible record past the cursor's own selector, which the cursor passes by its moves. The walk reads counts and index bytes, and no
-// record. The places stay in the moved cursor: made by one move in either case, it is the only copy until the walk ends.
+// record. The places stay in the moved cursor, and are copied once more, where the walk ends.
 fn first_from(t: &[u8], x: &[u8], h: u8, d: u8, n: u32, from: Cursor, here: u8) -> Seeks
     requires { ⌜ Going (now t) (now x) h d n ⌝ }
     requires { ⌜ (from .segment .0 < n) × (from .selector < d) ⌝ }
     requires { ⌜ ((here ≡ 63 → ⊥) → here % 64 < 63) × ((here ≡ 63 → ⊥) → getD (from .places) (here % 64) (placed 0) .0 < 65535) ⌝ }
     ensures { λ r. ⌜ r ≡ nextTold (now (x .entry)) from (walkFrom (now (t .entry)) (now (x .entry)) visibleVisit (passedBy here (spotOf from)) 0) ⌝ }
 {
+    // One move takes the other's place: chosen between two arms, the moved cursor would be copied again.
     let mut at = from.past_gap();
     if here != 63 {
         at = from.past_record(RunNo(here % 64));

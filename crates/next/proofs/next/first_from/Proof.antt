@@ -42,7 +42,7 @@ past-gap-requires c κs = omega (arith, c .before .before .pre .1 .0 .1)
 
 -- src/next.rt:75:14
 past-record-requires : tie.Need-past-record-requires Inv-loop μ-loop Inv-walk μ-walk
-past-record-requires c κs = (omega (arith, c .before .before .before .before .pre .1 .0 .1), c .before .before .before .before .pre .1 .1 .0 (c .if1 .taken), c .before .before .before .before .pre .1 .1 .1 (c .if1 .taken))
+past-record-requires c κs = (omega (arith, c .before .before .before .before .pre .1 .0 .1), omega (arith, c .before .before .before .before .pre .1 .1 .0 (c .if1 .taken)), c .before .before .before .before .pre .1 .1 .1 (c .if1 .taken))
 
 -- src/next.rt:78:9
 wide-size-requires : tie.Need-wide-size-requires Inv-loop μ-loop Inv-walk μ-walk
@@ -122,7 +122,7 @@ found-next-requires c κs = omega (arith, c .before .before .before .before .bef
 
 -- src/next.rt:97:42
 add-t44 : tie.Need-add-t44 Inv-loop μ-loop Inv-walk μ-walk
-add-t44 c = omega (arith, may-raise (c .before .before .before .before .before .before .before .before .before .before .before .before .before .before .before .before .before .before .before .pre .0) (c .before .before .before .before .before .before .before .before .before .loop .inv) (omega (arith, c .before .before .before .before .before .before .before .before .loop-test .taken, c .before .before .before .before .before .before .before .before .before .before .before .before .before .before .wide-size .ensures)) (selector-is (walks (c .before .before .before .before .before .before .before .before .before .before .before .before .before .before .before .before .before .before .before .pre .0)) _ _ (c .before .before .before .before .before .before .before .before .before .before .before .segment-at .ensures) (omega (arith, c .before .before .before .before .before .before .before .before .before .before .wide-size3 .ensures)) refl) (c .before .before .before .before .before .before .if2 .left) (c .before .before .before .before .before .if3 .taken) (c .before .before .before .before .wide-size4 .ensures) (c .before .before .count-of .ensures) (c .before .if4 .taken))
+add-t44 c = omega (arith, may-raise (c .before .before .before .before .before .before .before .before .before .before .before .before .before .before .before .before .before .before .before .pre .0) (c .before .before .before .before .before .before .before .before .before .loop .inv) (omega (arith, c .before .before .before .before .before .before .before .before .loop-test .taken, c .before .before .before .before .before .before .before .before .before .before .before .before .before .before .wide-size .ensures)) (selector-is (walks (c .before .before .before .before .before .before .before .before .before .before .before .before .before .before .before .before .before .before .before .pre .0)) _ _ (c .before .before .before .before .before .before .before .before .before .before .before .segment-at .ensures) (omega (arith, c .before .before .before .before .before .before .before .before .before .before .wide-size3 .ensures)) refl) (c .before .before .before .before .before .before .if2 .left) (c .before .before .before .before .before .if3 .taken) (c .before .before .before .before .wide-size4 .ensures) (c .before .before .count-of .ensures) (omega (arith, c .before .if4 .taken)))
 
 -- src/next.rt:97:21
 mul-t46 : tie.Need-mul-t46 Inv-loop μ-loop Inv-walk μ-walk
@@ -142,7 +142,7 @@ loop-less-2 c = omega arith
 
 -- src/next.rt:82:9
 loop-again-2 : tie.Need-loop-again-2 Inv-loop μ-loop Inv-walk μ-walk
-loop-again-2 c = on-go (c .before .before .before .before .before .before .before .before .before .before .before .before .before .before .before .before .before .before .before .pre .0) (c .before .before .before .before .before .before .before .before .before .loop .inv) (omega (arith, c .before .before .before .before .before .before .before .before .loop-test .taken, c .before .before .before .before .before .before .before .before .before .before .before .before .before .before .wide-size .ensures)) (selector-is (walks (c .before .before .before .before .before .before .before .before .before .before .before .before .before .before .before .before .before .before .before .pre .0)) _ _ (c .before .before .before .before .before .before .before .before .before .before .before .segment-at .ensures) (omega (arith, c .before .before .before .before .before .before .before .before .before .before .wide-size3 .ensures)) refl) (c .before .before .before .before .before .before .if2 .left) (c .before .before .before .before .before .if3 .taken) (c .before .before .before .before .wide-size4 .ensures) (c .before .before .count-of .ensures) (c .before .if4 .taken) (c .if5 .left)
+loop-again-2 c = on-go (c .before .before .before .before .before .before .before .before .before .before .before .before .before .before .before .before .before .before .before .pre .0) (c .before .before .before .before .before .before .before .before .before .loop .inv) (omega (arith, c .before .before .before .before .before .before .before .before .loop-test .taken, c .before .before .before .before .before .before .before .before .before .before .before .before .before .before .wide-size .ensures)) (selector-is (walks (c .before .before .before .before .before .before .before .before .before .before .before .before .before .before .before .before .before .before .before .pre .0)) _ _ (c .before .before .before .before .before .before .before .before .before .before .before .segment-at .ensures) (omega (arith, c .before .before .before .before .before .before .before .before .before .before .wide-size3 .ensures)) refl) (c .before .before .before .before .before .before .if2 .left) (c .before .before .before .before .before .if3 .taken) (c .before .before .before .before .wide-size4 .ensures) (c .before .before .count-of .ensures) (omega (arith, c .before .if4 .taken)) (omega (arith, c .if5 .left))
 
 -- src/next.rt:101:65
 cast-t49 : tie.Need-cast-t49 Inv-loop μ-loop Inv-walk μ-walk
@@ -186,11 +186,11 @@ walk-again c = here-into (walks (c .before .before .before .before .before .befo
 
 -- src/next.rt:67:1
 returns : tie.Need-returns Inv-loop μ-loop Inv-walk μ-walk
-returns c = told-found _ _ _ _ _ (c .before .if5 .taken) (c .before .before .before .before .before .wide-size4 .ensures) (on-stay (c .before .before .before .before .before .before .before .before .before .before .before .before .before .before .before .before .before .before .before .before .pre .0) (c .before .before .before .before .before .before .before .before .before .before .loop .inv) (omega (arith, c .before .before .before .before .before .before .before .before .before .loop-test .taken, c .before .before .before .before .before .before .before .before .before .before .before .before .before .before .before .wide-size .ensures)) (selector-is (walks (c .before .before .before .before .before .before .before .before .before .before .before .before .before .before .before .before .before .before .before .before .pre .0)) _ _ (c .before .before .before .before .before .before .before .before .before .before .before .before .segment-at .ensures) (omega (arith, c .before .before .before .before .before .before .before .before .before .before .before .wide-size3 .ensures)) refl) (c .before .before .before .before .before .before .before .if2 .left) (c .before .before .before .before .before .before .if3 .taken) (c .before .before .before .before .before .wide-size4 .ensures) (c .before .before .before .count-of .ensures) (c .before .before .if4 .taken) (c .before .if5 .taken) ∙ here-whole (walks (c .before .before .before .before .before .before .before .before .before .before .before .before .before .before .before .before .before .before .before .before .pre .0)) (c .before .before .before .before .before .before .before .before .before .before .before .before .before .walk .inv)) (c .found-next .ensures)
+returns c = told-found _ _ _ _ _ (omega (arith, c .before .if5 .taken)) (c .before .before .before .before .before .wide-size4 .ensures) (on-stay (c .before .before .before .before .before .before .before .before .before .before .before .before .before .before .before .before .before .before .before .before .pre .0) (c .before .before .before .before .before .before .before .before .before .before .loop .inv) (omega (arith, c .before .before .before .before .before .before .before .before .before .loop-test .taken, c .before .before .before .before .before .before .before .before .before .before .before .before .before .before .before .wide-size .ensures)) (selector-is (walks (c .before .before .before .before .before .before .before .before .before .before .before .before .before .before .before .before .before .before .before .before .pre .0)) _ _ (c .before .before .before .before .before .before .before .before .before .before .before .before .segment-at .ensures) (omega (arith, c .before .before .before .before .before .before .before .before .before .before .before .wide-size3 .ensures)) refl) (c .before .before .before .before .before .before .before .if2 .left) (c .before .before .before .before .before .before .if3 .taken) (c .before .before .before .before .before .wide-size4 .ensures) (c .before .before .before .count-of .ensures) (omega (arith, c .before .before .if4 .taken)) (omega (arith, c .before .if5 .taken)) ∙ here-whole (walks (c .before .before .before .before .before .before .before .before .before .before .before .before .before .before .before .before .before .before .before .before .pre .0)) (c .before .before .before .before .before .before .before .before .before .before .before .before .before .walk .inv)) (c .found-next .ensures)
 
 -- src/next.rt:67:1
 returns-2 : tie.Need-returns-2 Inv-loop μ-loop Inv-walk μ-walk
-returns-2 c = told-lost _ _ (lost-place (c .before .before .before .before .before .before .before .before .before .before .before .before .before .before .before .before .before .before .before .pre .0) (c .before .before .before .before .before .before .before .before .before .loop .inv) (omega (arith, c .before .before .before .before .before .before .before .before .loop-test .taken, c .before .before .before .before .before .before .before .before .before .before .before .before .before .before .wide-size .ensures)) (selector-is (walks (c .before .before .before .before .before .before .before .before .before .before .before .before .before .before .before .before .before .before .before .pre .0)) _ _ (c .before .before .before .before .before .before .before .before .before .before .before .segment-at .ensures) (omega (arith, c .before .before .before .before .before .before .before .before .before .before .wide-size3 .ensures)) refl) (c .before .before .before .before .before .before .if2 .left) (c .before .before .before .before .before .if3 .taken) (c .before .before .before .before .wide-size4 .ensures) (c .before .before .count-of .ensures) (c .before .if4 .left) ∙ here-whole (walks (c .before .before .before .before .before .before .before .before .before .before .before .before .before .before .before .before .before .before .before .pre .0)) (c .before .before .before .before .before .before .before .before .before .before .before .before .walk .inv)) (c .next-refused .ensures)
+returns-2 c = told-lost _ _ (lost-place (c .before .before .before .before .before .before .before .before .before .before .before .before .before .before .before .before .before .before .before .pre .0) (c .before .before .before .before .before .before .before .before .before .loop .inv) (omega (arith, c .before .before .before .before .before .before .before .before .loop-test .taken, c .before .before .before .before .before .before .before .before .before .before .before .before .before .before .wide-size .ensures)) (selector-is (walks (c .before .before .before .before .before .before .before .before .before .before .before .before .before .before .before .before .before .before .before .pre .0)) _ _ (c .before .before .before .before .before .before .before .before .before .before .before .segment-at .ensures) (omega (arith, c .before .before .before .before .before .before .before .before .before .before .wide-size3 .ensures)) refl) (c .before .before .before .before .before .before .if2 .left) (c .before .before .before .before .before .if3 .taken) (c .before .before .before .before .wide-size4 .ensures) (c .before .before .count-of .ensures) (omega (arith, c .before .if4 .left)) ∙ here-whole (walks (c .before .before .before .before .before .before .before .before .before .before .before .before .before .before .before .before .before .before .before .pre .0)) (c .before .before .before .before .before .before .before .before .before .before .before .before .walk .inv)) (c .next-refused .ensures)
 
 -- src/next.rt:67:1
 returns-3 : tie.Need-returns-3 Inv-loop μ-loop Inv-walk μ-walk
