@@ -6,6 +6,7 @@ use index::SegmentNo;
 use index::frame::IndexFrame;
 use index::frame::index_frame;
 use next::standing::belongs;
+use next::standing::place_numbers;
 use refusal::Refusal;
 use tray::Place;
 use tray::frame::TrayFrame;
@@ -94,9 +95,12 @@ fn page_framed(
     let h = f.runs;
     let counts = f.counts;
     let starts = f.starts;
-    let g = from.segment.0;
-    if belongs(x, h, d, n, from) {
-        if g < n {
+    let held = from.places;
+    let places = place_numbers(held);
+    let g = from.segment;
+    let s = from.selector;
+    if belongs(x, h, d, n, g, s, &places) {
+        if g.0 < n {
             return told_page(
                 from,
                 page_from(t, x, h, d, n, &counts, &starts, from, out),
@@ -105,7 +109,7 @@ fn page_framed(
         }
         return page_ends(0, n);
     }
-    page_refused(from, 0, Refusal::Cursor(g as u64))
+    page_refused(from, 0, Refusal::Cursor(g.0 as u64))
 }
 
 // Page: how many records were written from the first visible one at or after the cursor on, and where the first unwritten one stands; refusals

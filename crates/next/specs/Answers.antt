@@ -8,11 +8,9 @@ use mathlib.Core.List.{List}
 use lib.ListN.{replicate}
 use Rattle.refusal.specs.declared.Refusal.{Refusal}
 use Rattle.refusal.specs.declared.Refusal.the-variants.{Lost, Cursor as NotBelonging}
+use Rattle.tray.specs.declared.Place.{Place}
 use Rattle.tray.specs.Frame.{runCount}
 use Rattle.walk.specs.declared.cursor.Cursor.{Cursor}
-use Rattle.walk.specs.declared.cursor.Sight.{Sight}
-use Rattle.walk.specs.declared.cursor.Sight.the-variants.{Found as SightFound, End as SightEnd, Lost as SightLost}
-use Rattle.walk.specs.declared.cursor.Sought.{Sought}
 use Rattle.walk.specs.declared.calls.Seeks.{Seeks}
 use Rattle.walk.specs.declared.calls.SeekAnswer.the-variants.{Found, End, Refused}
 use Rattle.walk.specs.Walk.{Walked, stayed, ended, lost}
@@ -38,14 +36,9 @@ nextFramed t x c = cond (belongs (runCount t) x (spotOf c)) (nextTold x c (next 
 unfoldable pub nextAnswer : List ℕ → List ℕ → Cursor → Seeks
 nextAnswer t x c = inFrames (refusedNext c) t x (nextFramed t x c)
 
--- the same of what the code's walk hands over, for an index of n segments
+-- the end of an index of n segments, and a record found, as the code hands them over
 abbrev pub endAt : ℕ → Cursor
 endAt n = record { segment = record { 0 = n }; selector = 0; places = replicate 63 (record { 0 = 0 }) }
 
-unfoldable pub toldAs : ℕ → Cursor → Sight → Cursor → Seeks
-toldAs n c (SightFound run place) e = record { answer = Found run place; cursor = e }
-toldAs n c SightEnd e = record { answer = End; cursor = endAt n }
-toldAs n c (SightLost g s) e = refusedNext c (Lost g s)
-
-abbrev pub toldNext : ℕ → Cursor → Sought → Seeks
-toldNext n c s = toldAs n c (s .sight) (s .cursor)
+abbrev pub foundNext : ℕ → ℕ → List Place → ℕ → Place → Seeks
+foundNext g s places v p = record { answer = Found (record { 0 = v }) p; cursor = record { segment = record { 0 = g }; selector = s; places = places } }

@@ -1,5 +1,6 @@
--- Whether a cursor belongs, as the code reckons it: places past the tray's runs by their sum, the others by a tally of the selectors.
---     sumFor, sum-zero, zero-sum                 some places in a row
+-- Whether a cursor belongs, as the code reckons it: places past the tray's runs by the highest, the others by a tally of the selectors.
+--     Copying, copy-none, copy-more, copy-end    places copied as numbers
+--     higherOf, noneFor, none-turn, none-end     some places in a row are 0
 --     selectorsFrom, Tallied, tally-none, tally-more     how many selectors name each run
 --     wantedAt, wanted-is                        the places that a cursor must have
 --     zeros-hold, zeros-fail, places-are         all places at once
@@ -8,15 +9,15 @@
 use mathlib.Core.Path.{_≡_, refl, sym, ap, ap₂, _∙_, subst}
 use Prim.Native.Nat.{ℕ, zero, suc, _+_, _-_, _*_, _%_, _≤_, _<_}
 use native.Mathlib.Omega.{arith}
-use native.Mathlib.Nat.{zero-add, add-zero}
+use native.Mathlib.Nat.{zero-add, add-zero, add-suc}
 use native.Mathlib.Numerals.{add-one}
 use mathlib.Core.Bool.{Bool, true, false, cond, _&&_, _||_}
 use mathlib.Core.List.{List}
 use lib.ListN.{length, getD, set, replicate, length-set, getD-replicate, List·getD-eq-default}
-use lib.Seq.{getD-set-same, getD-set-other}
+use lib.Seq.{ext-getD, getD-set-same, getD-set-other}
 use lib.Dec.{eqb, ltb}
 use borrow.Author.Tests.{eq-eqb, ne-eqb, lt-ltb, le-ltb, eqb-true, eqb-false, ltb-true, ltb-false}
-use Rattle.theory.specs.Tests.{cases, order}
+use Rattle.theory.specs.Tests.{cases, never, order, and-left, and-right}
 use Rattle.theory.specs.Listed.{listed}
 use Rattle.theory.specs.Listed.Laws.{listed-same}
 use Rattle.index.specs.Layout.{headSize, sizeOf, segmentCount, segmentAt, offsetFrom}
@@ -24,40 +25,100 @@ use Rattle.index.specs.Layout.Code.{segmentAt-next, segmentAt-le}
 use Rattle.index.specs.Layout.Laws.{getD-listed}
 use Rattle.index.specs.Scan.{runIn}
 use Rattle.index.specs.Scan.Code.{sameTo, same-next, same-stop}
+use Rattle.tray.specs.declared.Place.{Place}
+use Rattle.walk.specs.Code.{placed, numbers, getD-numbers, length-numbers}
 use Rattle.walk.specs.Start.Code.{Probing}
 use Rattle.walk.specs.Walk.{Spot, selectorAt}
 use Rattle.walk.specs.Reads.{selectorsOf, placesAt, samePlaces, belongs}
 
--- the sum of k places from place r on
-unfoldable pub sumFor : ℕ → List ℕ → ℕ → ℕ
-sumFor zero ps r = 0
-sumFor (suc k) ps r = getD ps r 0 + sumFor k ps (r + 1)
+-- the first r places are copied as numbers
+pub record Copying (places : List Place) (ps : List ℕ) (r : ℕ) : Type 0 where
+  pub room : length ps ≡ 63
+  pub done : (i : ℕ) → i < r → getD ps i 0 ≡ getD places i (placed 0) .0
 
-pub sum-end : (ps : List ℕ) {r : ℕ} → 63 ≤ r → sumFor (63 - r) ps r ≡ 0
-unfolding sumFor
-sum-end ps {r} l = let z : 63 - r ≡ 0 = omega arith in rw z
+pub copy-none : (places : List Place) → Copying places (replicate 63 0) 0
+copy-none places = record { room = refl; done = λ i l. absurd (omega arith) }
 
-pub sum-next : (ps : List ℕ) {r q : ℕ} → r < 63 → q ≡ getD ps r 0 → sumFor (63 - r) ps r ≡ q + sumFor (63 - (r + 1)) ps (r + 1)
-unfolding sumFor
-sum-next ps {r} {q} l e = let z : 63 - r ≡ suc (63 - (r + 1)) = omega arith in rw z (ap (λ (n : ℕ). n + sumFor (63 - (r + 1)) ps (r + 1)) (sym e))
+pub copy-more : {places : List Place} {ps : List ℕ} {r : ℕ} → Copying places ps r → r < 63 → Copying places (set ps r (getD places r (placed 0) .0)) (r + 1)
+copy-more {places} {ps} {r} c l =
+    let room : length ps ≡ 63 = c .room in
+    record {
+      room = simp length-set room;
+      done = λ i k.
+          order i r
+          (λ b. getD-set-other ps r i (getD places r (placed 0) .0) 0 (λ z. omega arith) ∙ c .done i b)
+          (λ z. ap (λ (j : ℕ). getD (set ps r (getD places r (placed 0) .0)) j 0) z
+          ∙ getD-set-same ps r (getD places r (placed 0) .0) 0 (omega arith)
+          ∙ ap (λ (j : ℕ). getD places j (placed 0) .0) (sym z))
+          (λ a. absurd (omega arith));
+    }
 
--- it is 0 exactly where all of them are
-pub sum-zero : (k : ℕ) (ps : List ℕ) (r : ℕ) → sumFor k ps r ≡ 0 → (i : ℕ) → r ≤ i → i < r + k → getD ps i 0 ≡ 0
-unfolding sumFor
-sum-zero zero ps r e i l m = absurd (omega arith)
-sum-zero (suc k) ps r e i l m =
+pub copy-end : {places : List Place} {ps : List ℕ} {r : ℕ} → Copying places ps r → 63 ≤ r → length places ≡ 63 → ps ≡ numbers places
+copy-end {places} {ps} c l e =
+    let room : length ps ≡ 63 = c .room in
+    ext-getD 0 ps (numbers places) (c .room ∙ sym (length-numbers places ∙ e)) (λ i k. c .done i (omega arith) ∙ sym (getD-numbers places i))
+
+-- the higher of two numbers
+abbrev pub higherOf : ℕ → ℕ → ℕ
+higherOf a b = cond (ltb a b) b a
+
+-- the k places from place r on are 0
+unfoldable pub noneFor : ℕ → List ℕ → ℕ → Bool
+noneFor zero ps r = true
+noneFor (suc k) ps r = eqb (getD ps r 0) 0 && noneFor k ps (r + 1)
+
+-- the higher of two is 0 where both are
+higher-none : (a b : ℕ) → eqb (higherOf a b) 0 ≡ (eqb a 0 && eqb b 0)
+higher-none a b =
+    cases (ltb a b)
+    (λ y.
+    let l : a < b = ltb-true a b y in
+    let off : eqb b 0 ≡ false = ne-eqb b 0 (λ z. omega arith) in
+    rw (y, off) (sym (and-off (eqb a 0))))
+    (λ n.
+    let l : b ≤ a = ltb-false a b n in
+    rw n (below l))
+  where
+    and-off : (c : Bool) → (c && false) ≡ false
+    and-off true = refl
+    and-off false = refl
+
+    below : b ≤ a → eqb a 0 ≡ (eqb a 0 && eqb b 0)
+    below l =
+        cases (eqb a 0)
+        (λ y. let z : a ≡ 0 = eqb-true a 0 y in let on : eqb b 0 ≡ true = eq-eqb b 0 (omega arith) in rw (y, on))
+        (λ n. rw n)
+
+and-assoc : (a b c : Bool) → ((a && b) && c) ≡ (a && (b && c))
+and-assoc true b c = refl
+and-assoc false b c = refl
+
+-- the highest so far, and the places after it
+pub none-turn : (ps : List ℕ) (top : ℕ) {r m : ℕ} → r < 63 → m ≡ higherOf top (getD ps r 0)
+    → (eqb m 0 && noneFor (63 - (r + 1)) ps (r + 1)) ≡ (eqb top 0 && noneFor (63 - r) ps r)
+unfolding noneFor
+none-turn ps top {r} {m} l e =
+    let z : 63 - r ≡ suc (63 - (r + 1)) = omega arith in
+    rw z
+    (ap (λ (b : Bool). b && noneFor (63 - (r + 1)) ps (r + 1)) (ap (λ (k : ℕ). eqb k 0) e ∙ higher-none top (getD ps r 0))
+    ∙ and-assoc (eqb top 0) (eqb (getD ps r 0) 0) (noneFor (63 - (r + 1)) ps (r + 1)))
+
+pub none-end : (ps : List ℕ) {r : ℕ} (b : Bool) → 63 ≤ r → b ≡ (b && noneFor (63 - r) ps r)
+unfolding noneFor
+none-end ps {r} b l = let z : 63 - r ≡ 0 = omega arith in rw z (sym (and-on b))
+  where
+    and-on : (c : Bool) → (c && true) ≡ c
+    and-on true = refl
+    and-on false = refl
+
+none-all : (k : ℕ) (ps : List ℕ) (r : ℕ) → noneFor k ps r ≡ true → (i : ℕ) → r ≤ i → i < r + k → getD ps i 0 ≡ 0
+unfolding noneFor
+none-all zero ps r e i l m = absurd (omega arith)
+none-all (suc k) ps r e i l m =
     order r i
-    (λ b. sum-zero k ps (r + 1) (omega arith) i (omega arith) (omega arith))
-    (λ z. ap (λ (j : ℕ). getD ps j 0) (sym z) ∙ omega arith)
+    (λ b. none-all k ps (r + 1) (and-right (eqb (getD ps r 0) 0) (noneFor k ps (r + 1)) e) i (omega arith) (omega arith))
+    (λ z. ap (λ (j : ℕ). getD ps j 0) (sym z) ∙ eqb-true (getD ps r 0) 0 (and-left (eqb (getD ps r 0) 0) (noneFor k ps (r + 1)) e))
     (λ a. absurd (omega arith))
-
-pub zero-sum : (k : ℕ) (ps : List ℕ) (r : ℕ) → ((i : ℕ) → r ≤ i → i < r + k → getD ps i 0 ≡ 0) → sumFor k ps r ≡ 0
-unfolding sumFor
-zero-sum zero ps r all = refl
-zero-sum (suc k) ps r all =
-    let here : getD ps r 0 ≡ 0 = all r (omega arith) (omega arith) in
-    let rest : sumFor k ps (r + 1) ≡ 0 = zero-sum k ps (r + 1) (λ i l m. all i (omega arith) (omega arith)) in
-    omega arith
 
 -- how many of the first s bytes from `first` on name run r, marks aside
 unfoldable pub selectorsFrom : List ℕ → ℕ → ℕ → ℕ → ℕ
@@ -178,34 +239,33 @@ same-off xs ys (suc k) i l off =
     and-false true = refl
     and-false false = refl
 
--- a sum that is not 0 has a place that is not
-sum-some : (k : ℕ) (ps : List ℕ) (r : ℕ) → (sumFor k ps r ≡ 0 → ⊥) → (i : ℕ) × (r ≤ i) × (i < r + k) × (getD ps i 0 ≡ 0 → ⊥)
-unfolding sumFor
-sum-some zero ps r off = absurd (off refl)
-sum-some (suc k) ps r off =
+-- one of them is not
+none-some : (k : ℕ) (ps : List ℕ) (r : ℕ) → noneFor k ps r ≡ false → (i : ℕ) × (r ≤ i) × (i < r + k) × (getD ps i 0 ≡ 0 → ⊥)
+unfolding noneFor
+none-some zero ps r off = never (cc)
+none-some (suc k) ps r off =
     cases (eqb (getD ps r 0) 0)
     (λ y.
-    let z : getD ps r 0 ≡ 0 = eqb-true (getD ps r 0) 0 y in
-    let s = sum-some k ps (r + 1) (λ e. off (omega arith)) in
+    let s = none-some k ps (r + 1) (rw y at off) in
     (s .0, omega (arith, s .1), omega (arith, s .2), s .3))
     (λ n. (r, omega arith, omega arith, eqb-false (getD ps r 0) 0 n))
 
--- whether the places of a cursor are those of a list that is 0 from h on, by their sum
-module _ (ps qs : List ℕ) (h : ℕ) (few : h ≤ 63) (none : (r : ℕ) → h ≤ r → r < 63 → getD qs r 0 ≡ 0) {n : ℕ} (sum : n ≡ sumFor (63 - h) ps h) where
+-- whether the places of a cursor are those of a list that is 0 from h on
+module _ (ps qs : List ℕ) (h : ℕ) (few : h ≤ 63) (none : (r : ℕ) → h ≤ r → r < 63 → getD qs r 0 ≡ 0) {b : Bool} (told : b ≡ noneFor (63 - h) ps h) where
   all-of : h + (63 - h) ≡ 63
   all-of = omega arith
 
-  pub sum-same : n ≡ 0 → sameTo ps qs h ≡ samePlaces ps qs
+  pub none-same : b ≡ true → sameTo ps qs h ≡ samePlaces ps qs
   unfolding samePlaces
-  sum-same z =
+  none-same y =
       sym
       (ap (sameTo ps qs) (sym all-of)
-      ∙ same-rest ps qs h (63 - h) (λ r l m. sum-zero (63 - h) ps h (sym sum ∙ z) r l m ∙ sym (none r l (omega arith))))
+      ∙ same-rest ps qs h (63 - h) (λ r l m. none-all (63 - h) ps h (sym told ∙ y) r l m ∙ sym (none r l (omega arith))))
 
-  pub sum-off : (n ≡ 0 → ⊥) → false ≡ samePlaces ps qs
+  pub none-off : b ≡ false → false ≡ samePlaces ps qs
   unfolding samePlaces
-  sum-off off =
-      let s = sum-some (63 - h) ps h (λ z. off (sum ∙ z)) in
+  none-off n =
+      let s = none-some (63 - h) ps h (sym told ∙ n) in
       let low : s .0 < 63 = omega (arith, s .2) in
       sym (same-off ps qs 63 (s .0) low (λ e. s .3 (e ∙ none (s .0) (s .1) low)))
 
@@ -217,23 +277,44 @@ segment-inside {h} {x} {d} {n} p {g} {at} l e =
     let whole : length x ≡ segmentAt h d n = p .whole in
     omega arith
 
+-- numbers that differ among the first h differ among more
+same-far : (xs ys : List ℕ) (h k : ℕ) → sameTo xs ys h ≡ false → sameTo xs ys (h + k) ≡ false
+unfolding sameTo
+same-far xs ys h zero e = rw add-zero e
+same-far xs ys h (suc k) e = rw (add-suc, same-far xs ys h k e) (and-off (eqb (getD xs (h + k) 0) (getD ys (h + k) 0)))
+  where
+    and-off : (b : Bool) → (b && false) ≡ false
+    and-off true = refl
+    and-off false = refl
+
 -- a cursor stands at a selector of a segment
-module _ {h : ℕ} {x : List ℕ} {d m : ℕ} (p : Probing x h d m) (few : h ≤ 63) (ps : List ℕ) (g s : ℕ) {n e : ℕ} (runs : e ≡ h) (sum : n ≡ sumFor (63 - e) ps e) where
+module _ {h : ℕ} {x : List ℕ} {d m : ℕ} (p : Probing x h d m) (few : h ≤ 63) (ps : List ℕ) (g s : ℕ) {at first : ℕ} {seen : List ℕ} {b : Bool} (a : at ≡ segmentAt h d g)
+    (f : first ≡ at + 8 + 2 * h) (c : Tallied x first s seen) (told : b ≡ sameTo ps (wantedAt h x at seen) h) where
   past : (r : ℕ) → h ≤ r → r < 63 → getD (placesAt h x g s) r 0 ≡ 0
   unfolding placesAt
   past r l k =
       getD-listed 63 0 (λ i. cond (ltb i h) (offsetFrom x (segmentAt h (sizeOf x) g) i + selectorsOf h x g i s) 0) r 0 k
       ∙ rw (zero-add, le-ltb r h l)
 
-  sums : n ≡ sumFor (63 - h) ps h
-  sums = sum ∙ ap (λ (i : ℕ). sumFor (63 - i) ps i) runs
+  held : b ≡ sameTo ps (placesAt h x g s) h
+  held = told ∙ ap (λ (qs : List ℕ). sameTo ps qs h) (wanted-is p g a f few c)
 
-  pub stands-told : {at first : ℕ} {seen : List ℕ} {b : Bool} → n ≡ 0 → at ≡ segmentAt h d g → first ≡ at + 8 + 2 * h → Tallied x first s seen
-      → b ≡ sameTo ps (wantedAt h x at seen) h → b ≡ samePlaces ps (placesAt h x g s)
-  stands-told z a f c told = told ∙ ap (λ (qs : List ℕ). sameTo ps qs h) (wanted-is p g a f few c) ∙ sum-same ps (placesAt h x g s) h few past sums z
+  -- where the tray's runs hold, the others decide,
+  pub stands-told : {r : Bool} {e : ℕ} → b ≡ true → e ≡ h → r ≡ noneFor (63 - e) ps e → r ≡ samePlaces ps (placesAt h x g s)
+  stands-told {r} y runs others =
+      cases r
+      (λ z. z ∙ sym (sym held ∙ y) ∙ none-same ps (placesAt h x g s) h few past all z)
+      (λ z. z ∙ none-off ps (placesAt h x g s) h few past all z)
+    where
+      all : r ≡ noneFor (63 - h) ps h
+      all = others ∙ ap (λ (i : ℕ). noneFor (63 - i) ps i) runs
 
-  pub stands-off : (n ≡ 0 → ⊥) → false ≡ samePlaces ps (placesAt h x g s)
-  stands-off off = sum-off ps (placesAt h x g s) h few past sums off
+  -- and else nothing does
+  pub stands-off : b ≡ false → false ≡ samePlaces ps (placesAt h x g s)
+  unfolding samePlaces
+  stands-off n =
+      let z : h + (63 - h) ≡ 63 = omega arith in
+      sym (ap (sameTo ps (placesAt h x g s)) (sym z) ∙ same-far ps (placesAt h x g s) h (63 - h) (sym held ∙ n))
 
 -- a cursor belongs
 module _ {h : ℕ} {x : List ℕ} {d n : ℕ} (p : Probing x h d n) (c : Spot) where
@@ -278,18 +359,15 @@ module _ {h : ℕ} {x : List ℕ} {d n : ℕ} (p : Probing x h d n) (c : Spot) w
       unfolding belongs
       belongs-inner off = sym (rw (off-index, at-end, ne-eqb (c .selector) 0 off))
 
-      pub belongs-end : {m : ℕ} → c .selector ≡ 0 → m ≡ sumFor 63 (c .places) 0 → eqb m 0 ≡ belongs h x c
+      pub belongs-end : {b : Bool} → c .selector ≡ 0 → b ≡ noneFor 63 (c .places) 0 → b ≡ belongs h x c
       unfolding belongs sameTo
-      belongs-end {m} z e =
-          cases (eqb m 0)
-          (λ y. y ∙ tr (sum-same (c .places) (replicate 63 0) 0 (omega arith) zeros e (eqb-true m 0 y)))
-          (λ k. k ∙ sum-off (c .places) (replicate 63 0) 0 (omega arith) zeros e (eqb-false m 0 k) ∙ whole)
+      belongs-end {b} z e =
+          cases b
+          (λ y. y ∙ none-same (c .places) (replicate 63 0) 0 (omega arith) zeros e y ∙ whole)
+          (λ n. n ∙ none-off (c .places) (replicate 63 0) 0 (omega arith) zeros e n ∙ whole)
         where
           zeros : (r : ℕ) → 0 ≤ r → r < 63 → getD {A = ℕ} (replicate 63 0) r 0 ≡ 0
           zeros r a l = getD-replicate 63 r 0 0 l
 
           whole : samePlaces (c .places) (replicate 63 0) ≡ belongs h x c
           whole = sym (rw (off-index, at-end, eq-eqb (c .selector) 0 z) (or-off (samePlaces (c .places) (replicate 63 0))))
-
-          tr : sameTo (c .places) (replicate 63 0) 0 ≡ samePlaces (c .places) (replicate 63 0) → true ≡ belongs h x c
-          tr k = k ∙ whole

@@ -5,17 +5,16 @@ use number::big2;
 use number::wide_size;
 use number::wide32;
 use tray::Place;
-use walk::cursor::Cursor;
 ghost use mathlib.Core.Path.{_≡_};
 ghost use Prim.Native.Nat.{_+_, _-_, _*_, _≤_, _<_};
 ghost use lib.ListN.{length};
 ghost use Rattle.index.specs.Scan.Code.{sameTo};
 ghost use Rattle.walk.specs.Start.Code.{Probing};
 ghost use Rattle.walk.specs.Reads.{placesAt, samePlaces, belongs as belongsTo};
-ghost use Rattle.walk.specs.Code.{numbers, spotOf};
-ghost use Rattle.next.specs.Standing.{sumFor, Tallied, wantedAt};
+ghost use Rattle.walk.specs.Code.{numbers};
+ghost use Rattle.next.specs.Standing.{higherOf, noneFor, Tallied, wantedAt};
 
-// The number of 16 bits, as 32: sums of places need no more, and four of them are added at once.
+// The number of 16 bits, as 32: an offset and a tally add up to no more.
 fn wide_16(x: u16) -> u32
     ensures { λ n. ⌜ n ≡ x ⌝ }
     ensures { λ n. ⌜ n ≤ 65535 ⌝ }
@@ -23,27 +22,42 @@ fn wide_16(x: u16) -> u32
     x as u32
 }
 
-// A place as a number.
-fn place_size(p: Place) -> u32
-    ensures { λ n. ⌜ n ≡ p .0 ⌝ }
-    ensures { λ n. ⌜ n ≤ 65535 ⌝ }
+// The places of a cursor as numbers: a copy that is lent where a cursor would be copied again for each function.
+pub fn place_numbers(places: [Place; 63]) -> [u16; 63]
+    ensures { λ ps. ⌜ ps ≡ numbers places ⌝ }
 {
-    let q = p.0;
-    wide_16(q)
+    let mut ps = [0u16; 63];
+    let mut i: usize = 0;
+    while i < 63 {
+        let p = places[i];
+        ps[i] = p.0;
+        i += 1;
+    }
+    ps
 }
 
-// The sum of the places from a run on: 0 exactly where all of them are.
-fn sum_from(places: [Place; 63], from: usize) -> u32
-    requires { ⌜ from ≤ 63 ⌝ }
-    ensures { λ n. ⌜ n ≡ sumFor (63 - from) (numbers places) from ⌝ }
+// The higher of two numbers.
+fn higher(a: u16, b: u16) -> u16
+    ensures { λ n. ⌜ n ≡ higherOf a b ⌝ }
 {
-    let mut sum: u32 = 0;
+    if a < b {
+        return b;
+    }
+    a
+}
+
+// Whether the places from a run on are all 0: the highest of them is. The compiler compares eight at once.
+fn none_from(places: &[u16; 63], from: usize) -> bool
+    requires { ⌜ from ≤ 63 ⌝ }
+    ensures { λ b. ⌜ b ≡ noneFor (63 - from) (now (places .entry)) from ⌝ }
+{
+    let mut top: u16 = 0;
     let mut r = from;
     while r < 63 {
-        sum += place_size(places[r]);
+        top = higher(top, places[r]);
         r += 1;
     }
-    sum
+    top == 0
 }
 
 // How many of the s selectors from a byte on name each run, marks aside.
@@ -51,10 +65,11 @@ fn tally(x: &[u8], first: usize, s: u8) -> [u8; 64]
     requires { ⌜ first + s ≤ length (now x) ⌝ }
     ensures { λ seen. ⌜ Tallied (now (x .entry)) first s seen ⌝ }
 {
+    let end = wide_size(s);
     let mut seen = [0u8; 64];
-    let mut i: u8 = 0;
-    while i < s {
-        let v = x[first + wide_size(i)];
+    let mut i: usize = 0;
+    while i < end {
+        let v = x[first + i];
         let r = wide_size(v % 64);
         seen[r] += 1;
         i += 1;
@@ -63,14 +78,14 @@ fn tally(x: &[u8], first: usize, s: u8) -> [u8; 64]
 }
 
 // Whether the places of the tray's runs are as they must be, for the segment that starts at a byte.
-fn places_hold(x: &[u8], at: usize, h: u8, seen: &[u8], places: [Place; 63]) -> bool
+fn places_hold(x: &[u8], at: usize, h: u8, seen: &[u8], places: &[u16; 63]) -> bool
     requires { ⌜ (at + 8 + 2 * h ≤ length (now x)) × (h ≤ 63) × (length (now seen) ≡ 64) ⌝ }
-    ensures { λ b. ⌜ b ≡ sameTo (numbers places) (wantedAt h (now (x .entry)) at (now (seen .entry))) h ⌝ }
+    ensures { λ b. ⌜ b ≡ sameTo (now (places .entry)) (wantedAt h (now (x .entry)) at (now (seen .entry))) h ⌝ }
 {
     let mut r = wide_size(h);
     while 0 < r {
         r -= 1;
-        if place_size(places[r]) == wide_16(big2(x, at + 8 + 2 * r)) + wide32(seen[r]) {
+        if wide_16(places[r]) == wide_16(big2(x, at + 8 + 2 * r)) + wide32(seen[r]) {
             continue;
         }
         return false;
@@ -78,40 +93,38 @@ fn places_hold(x: &[u8], at: usize, h: u8, seen: &[u8], places: [Place; 63]) -> 
     true
 }
 
-// Whether a cursor that is not the end stands at a selector of a segment.
-fn stands(x: &[u8], h: u8, d: u8, n: u32, c: Cursor) -> bool
+// Whether a cursor that is not the end stands at a selector of a segment. The places past the tray's runs come last: the copy of the places has
+// then settled, and whole stretches of it are read without waiting.
+fn stands(x: &[u8], h: u8, d: u8, n: u32, g: SegmentNo, s: u8, places: &[u16; 63]) -> bool
     requires { ⌜ Probing (now x) h d n ⌝ }
-    requires { ⌜ (h ≤ 63) × (c .segment .0 < n) × (c .selector < d) ⌝ }
-    ensures { λ b. ⌜ b ≡ samePlaces (numbers (c .places)) (placesAt h (now (x .entry)) (c .segment .0) (c .selector)) ⌝ }
+    requires { ⌜ (h ≤ 63) × (g .0 < n) × (s < d) ⌝ }
+    ensures { λ b. ⌜ b ≡ samePlaces (now (places .entry)) (placesAt h (now (x .entry)) (g .0) s) ⌝ }
 {
-    let places = c.places;
-    let at = segment_at(c.segment, h, d);
+    let at = segment_at(g, h, d);
     let end = wide_size(h);
-    if sum_from(places, end) == 0 {
-        let seen = tally(x, at + 8 + 2 * end, c.selector);
-        return places_hold(x, at, h, &seen, places);
+    let seen = tally(x, at + 8 + 2 * end, s);
+    if places_hold(x, at, h, &seen, places) {
+        return none_from(places, end);
     }
     false
 }
 
 // Whether a cursor belongs to an index of n segments.
-pub fn belongs(x: &[u8], h: u8, d: u8, n: u32, c: Cursor) -> bool
+pub fn belongs(x: &[u8], h: u8, d: u8, n: u32, g: SegmentNo, s: u8, places: &[u16; 63]) -> bool
     requires { ⌜ Probing (now x) h d n ⌝ }
     requires { ⌜ h ≤ 63 ⌝ }
-    ensures { λ b. ⌜ b ≡ belongsTo h (now (x .entry)) (spotOf c) ⌝ }
+    ensures { λ b. ⌜ b ≡ belongsTo h (now (x .entry)) (record { segment = g .0; selector = s; places = now (places .entry) }) ⌝ }
 {
-    let g = c.segment.0;
-    let s = c.selector;
-    if g < n {
+    let segment = g.0;
+    if segment < n {
         if s < d {
-            return stands(x, h, d, n, c);
+            return stands(x, h, d, n, g, s, places);
         }
         return false;
     }
-    if g == n {
+    if segment == n {
         if s == 0 {
-            let places = c.places;
-            return sum_from(places, 0) == 0;
+            return none_from(places, 0);
         }
     }
     false

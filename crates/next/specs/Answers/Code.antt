@@ -1,5 +1,6 @@
 -- What the code of next needs of its answer.
---     told-is               what the code's walk hands over is next's answer
+--     told-spot             a test of a cursor's parts is one of the cursor
+--     told-is               what the code's walk tells is next's answer
 --     next-ends             from the end, the end
 --     next-off              a cursor that doesn't belong
 --     belongs-low           one that belongs and is not the end stands at a selector
@@ -17,37 +18,33 @@ use Rattle.theory.specs.Tests.{cases, clash}
 use Rattle.tray.specs.Frame.{runCount}
 use Rattle.index.specs.Layout.{sizeOf, segmentCount}
 use Rattle.walk.specs.declared.cursor.Cursor.{Cursor}
-use Rattle.walk.specs.declared.cursor.Sight.{Sight}
-use Rattle.walk.specs.declared.cursor.Sight.the-variants.{Found as SightFound, End as SightEnd, Lost as SightLost}
-use Rattle.walk.specs.declared.cursor.Sought.{Sought}
 use Rattle.walk.specs.declared.calls.Seeks.{Seeks}
-use Rattle.walk.specs.declared.calls.SeekAnswer.the-variants.{Found, End}
+use Rattle.walk.specs.declared.calls.SeekAnswer.the-variants.{End}
 use Rattle.walk.specs.Walk.{Spot, ended, walkFrom}
 use Rattle.walk.specs.Reads.{endSpot, belongs, next}
-use Rattle.walk.specs.Code.{Walking, spotOf, soughtAs, soughtOf}
+use Rattle.walk.specs.Code.{Walking, numbers, spotOf}
 use Rattle.walk.specs.Answers.{cursorOf}
-use Rattle.walk.specs.Answers.Code.{cursor-back}
 use Rattle.next.specs.Standing.{belongs-past}
-use Rattle.next.specs.Answers.{refusedNext, nextTold, nextFramed, endAt, toldAs, toldNext}
+use Rattle.next.specs.Answers.{refusedNext, nextTold, nextFramed, endAt}
 
 end-is : (x : List ℕ) {n : ℕ} → n ≡ segmentCount x → _≡_ {A = Seeks} (record { answer = End; cursor = endAt n }) (record { answer = End; cursor = cursorOf (endSpot x) })
 unfolding cursorOf endSpot
 end-is x e = ap (λ (k : ℕ). record { answer = End; cursor = endAt k }) e
 
-told-as : (x : List ℕ) (n : ℕ) (c : Cursor) (a : Sight) (e : Cursor) → n ≡ segmentCount x → toldAs n c a e ≡ nextTold x c (soughtAs a (spotOf e))
-unfolding nextTold soughtAs toldAs
-told-as x n c (SightFound run place) e count = ap (λ (k : Cursor). record { answer = Found run place; cursor = k }) (sym (cursor-back e))
-told-as x n c SightEnd e count = end-is x count
-told-as x n c (SightLost g s) e count = refl
+-- a test of a cursor's parts is one of the cursor
+pub told-spot : (h : ℕ) (x : List ℕ) (c : Cursor) {ps : List ℕ} {b : Bool} → ps ≡ numbers (c .places)
+    → b ≡ belongs h x (record { segment = c .segment .0; selector = c .selector; places = ps }) → b ≡ belongs h x (spotOf c)
+unfolding spotOf
+told-spot h x c e told = told ∙ ap (λ (qs : List ℕ). belongs h x (record { segment = c .segment .0; selector = c .selector; places = qs })) e
 
 module _ {t x : List ℕ} {h d n : ℕ} {counts : List ℕ} (w : Walking t x h d n counts) (c : Cursor) {b : Bool} (told : b ≡ belongs h x (spotOf c)) where
   there : b ≡ true → belongs (runCount t) x (spotOf c) ≡ true
   there y = ap (λ (k : ℕ). belongs k x (spotOf c)) (sym (w .runs)) ∙ sym told ∙ y
 
-  -- what the code's walk hands over is next's answer
-  pub told-is : (s : Sought) {r : Seeks} → b ≡ true → soughtOf s ≡ next t x (spotOf c) → r ≡ toldNext n c s → r ≡ nextFramed t x c
-  unfolding nextFramed soughtOf
-  told-is s y walked e = e ∙ told-as x n c (s .sight) (s .cursor) (w .index .count) ∙ ap (nextTold x c) walked ∙ sym (rw (there y))
+  -- what the code's walk tells is next's answer
+  pub told-is : {r : Seeks} → b ≡ true → r ≡ nextTold x c (next t x (spotOf c)) → r ≡ nextFramed t x c
+  unfolding nextFramed
+  told-is y e = e ∙ sym (rw (there y))
 
   -- from the end, the end
   pub next-ends : {r : Seeks} → b ≡ true → n ≤ c .segment .0 → r ≡ record { answer = End; cursor = endAt n } → r ≡ nextFramed t x c

@@ -1,51 +1,65 @@
 -- `next::calls::next_framed` meets its contract. Assumes nothing.
+use Rattle.next.specs.Answers.Code.{told-spot, told-is, next-ends, next-off, belongs-low}
+use Rattle.next.specs.Next.{going}
 use Rattle.walk.specs.Answers.Code.{walking}
-use Rattle.next.specs.Answers.Code.{told-is, next-ends, next-off, belongs-low}
+use native.Mathlib.Omega.{arith}
 use borrow.Author.Needs.{needs}
 use Rattle.next.proofs.calls.next_framed.Statement.{statement}
 use Rattle.next.proofs.calls.next_framed.Tie as tie
+use Rattle.next.proofs.calls.next_framed.Reads as reads
+use Rattle.next.proofs.calls.next_framed.Lts as lts
+use Rattle.next.proofs.next.next_ends.Reads as next-ends-reads
+use Rattle.next.proofs.next.next_from.Reads as next-from-reads
+use Rattle.next.proofs.next.next_refused.Reads as next-refused-reads
+use Rattle.next.proofs.standing.belongs.Reads as belongs-reads
+use Rattle.next.proofs.standing.place_numbers.Reads as place-numbers-reads
 
+-- src/calls.rt:27:18
+place-numbers-requires : tie.Need-place-numbers-requires
+place-numbers-requires c κs = search needs
+
+-- src/calls.rt:30:8
 belongs-requires : tie.Need-belongs-requires
-belongs-requires c κs = ((walking (c .before .before .before .pre .0) (c .before .before .before .pre .1)) .index, (walking (c .before .before .before .pre .0) (c .before .before .before .pre .1)) .few)
+belongs-requires c κs = ((walking (c .before .before .before .before .before .before .pre .0) (c .before .before .before .before .before .before .pre .1)) .index, (walking (c .before .before .before .before .before .before .pre .0) (c .before .before .before .before .before .before .pre .1)) .few)
 
-slice-aggregate-next-from : tie.Need-slice-aggregate-next-from
-slice-aggregate-next-from c = search needs
-
+-- src/calls.rt:32:13
 next-from-requires : tie.Need-next-from-requires
-next-from-requires c κs = ((walking (c .before .before .before .before .before .before .before .pre .0) (c .before .before .before .before .before .before .before .pre .1)), (c .before .if2 .taken, belongs-low (walking (c .before .before .before .before .before .before .before .pre .0) (c .before .before .before .before .before .before .before .pre .1)) _ (c .before .before .before .belongs .ensures) (c .before .before .if1 .taken) (c .before .if2 .taken)))
+next-from-requires c κs = (going (c .before .before .before .before .before .before .before .before .before .before .before .pre .0) (c .before .before .before .before .before .before .before .before .before .before .before .pre .1), ((c .before .if2 .taken, belongs-low (walking (c .before .before .before .before .before .before .before .before .before .before .before .pre .0) (c .before .before .before .before .before .before .before .before .before .before .before .pre .1)) _ (told-spot _ _ (c .before .before .before .before .before .before .before .before .before .before .before .args .from) (c .before .before .before .before .before .before .before .place-numbers .ensures) (c .before .before .before .before .belongs .ensures)) (c .before .before .before .if1 .taken) (c .before .if2 .taken)), c .before .before .before .before .before .before .before .place-numbers .ensures))
 
-told-next-requires : tie.Need-told-next-requires
-told-next-requires c κs = search needs
-
+-- src/calls.rt:32:13
 returns : tie.Need-returns
-returns c = told-is (walking (c .before .before .before .before .before .before .before .before .before .pre .0) (c .before .before .before .before .before .before .before .before .before .pre .1)) _ (c .before .before .before .before .before .belongs .ensures) _ (c .before .before .before .before .if1 .taken) (c .before .next-from .ensures) (c .told-next .ensures)
+returns c = told-is (walking (c .before .before .before .before .before .before .before .before .before .before .before .before .pre .0) (c .before .before .before .before .before .before .before .before .before .before .before .before .pre .1)) _ (told-spot _ _ (c .before .before .before .before .before .before .before .before .before .before .before .before .args .from) (c .before .before .before .before .before .before .before .before .place-numbers .ensures) (c .before .before .before .before .before .belongs .ensures)) (c .before .before .before .before .if1 .taken) (c .next-from .ensures)
 
+-- src/calls.rt:34:9
 next-ends-requires : tie.Need-next-ends-requires
 next-ends-requires c κs = search needs
 
+-- src/calls.rt:34:9
 returns-2 : tie.Need-returns-2
-returns-2 c = next-ends (walking (c .before .before .before .before .before .before .before .pre .0) (c .before .before .before .before .before .before .before .pre .1)) _ (c .before .before .before .belongs .ensures) (c .before .before .if1 .taken) (c .before .if2 .left) (c .next-ends .ensures)
+returns-2 c = next-ends (walking (c .before .before .before .before .before .before .before .before .before .before .before .pre .0) (c .before .before .before .before .before .before .before .before .before .before .before .pre .1)) _ (told-spot _ _ (c .before .before .before .before .before .before .before .before .before .before .before .args .from) (c .before .before .before .before .before .before .before .place-numbers .ensures) (c .before .before .before .before .belongs .ensures)) (c .before .before .before .if1 .taken) (c .before .if2 .left) (c .next-ends .ensures)
 
-cast-t15 : tie.Need-cast-t15
-cast-t15 c = search needs
+-- src/calls.rt:36:40
+cast-t17 : tie.Need-cast-t17
+cast-t17 c = search needs
 
+-- src/calls.rt:36:5
 next-refused-requires : tie.Need-next-refused-requires
 next-refused-requires c κs = search needs
 
+-- src/calls.rt:20:1
 returns-3 : tie.Need-returns-3
-returns-3 c = next-off (walking (c .before .before .before .before .before .before .pre .0) (c .before .before .before .before .before .before .pre .1)) _ (c .before .before .belongs .ensures) (c .before .if1 .left) (c .next-refused .ensures)
+returns-3 c = next-off (walking (c .before .before .before .before .before .before .before .before .before .before .pre .0) (c .before .before .before .before .before .before .before .before .before .before .pre .1)) _ (told-spot _ _ (c .before .before .before .before .before .before .before .before .before .before .args .from) (c .before .before .before .before .before .before .place-numbers .ensures) (c .before .before .before .belongs .ensures)) (c .before .before .if1 .left) (c .next-refused .ensures)
 
 pub next-framed-spec : {M : Type 1} → statement M
 next-framed-spec =
     tie.close
     (tie.spec
+    place-numbers-requires
     belongs-requires
-    slice-aggregate-next-from
     next-from-requires
-    told-next-requires
     returns
     next-ends-requires
     returns-2
-    cast-t15
+    cast-t17
     next-refused-requires
     returns-3)

@@ -1,141 +1,204 @@
--- `next::next::first_from` meets its contract. Assumes nothing.
-use mathlib.Core.Path.{sym, _∙_}
-use lib.ListN.{length-set, length-map}
-use Rattle.walk.specs.Code.Turns.{within, selector-is, named-run, named-yes, named-past, here-at, here-whole, here-into, here-end, here-enter}
-use Rattle.walk.specs.Code.{selectors-pass, selectors-lost, selectors-stay, selectors-go, raise-numbers, spotOf}
-use Rattle.next.specs.Next.{Inner, Outer, visible-go, visible-stay, sight-there}
+-- `next::next::first_from` meets its contract. Invariant: the walk from here answers for the walk past the cursor's selector. Measures: what is
+-- left of the segment, and of the segments. Assumes nothing.
+use Rattle.next.specs.Next.Told.{starts, on-gap, on-go, on-stay, lost-run, lost-place, may-raise, told-found, told-lost, told-end}
+use Rattle.next.specs.Next.{Inner, Outer, walks, passed-gap, passed-record}
+use Rattle.walk.specs.Code.Turns.{within, selector-is, here-at, here-whole, here-into, here-end, here-enter}
+use Rattle.walk.specs.Code.{spotOf}
+use lib.ListN.{length-map}
 use Prim.Native.Nat.{_-_}
+use mathlib.Core.Logic.{⊎-elim}
+use mathlib.Core.Path.{refl, sym, ap, _∙_}
 use native.Mathlib.Omega.{arith}
 use borrow.Author.Needs.{needs}
 use Rattle.next.proofs.next.first_from.Statement.{statement}
 use Rattle.next.proofs.next.first_from.Tie as tie
+use Rattle.next.proofs.next.first_from.Reads as reads
+use Rattle.next.proofs.next.first_from.Lts as lts
+use Rattle.index.proofs.frame.segment_at.Reads as segment-at-reads
+use Rattle.next.proofs.next.found_next.Reads as found-next-reads
+use Rattle.next.proofs.next.next_ends.Reads as next-ends-reads
+use Rattle.next.proofs.next.next_refused.Reads as next-refused-reads
+use Rattle.number.proofs.wide_size.Reads as wide-size-reads
+use Rattle.tray.proofs.frame.count_of.Reads as count-of-reads
+use Rattle.walk.proofs.cursor.Cursor.past_gap.Reads as past-gap-reads
+use Rattle.walk.proofs.cursor.Cursor.past_record.Reads as past-record-reads
+use Rattle.walk.proofs.cursor.load.Reads as load-reads
 
 abbrev Inv-loop : tie.InvT-loop
-Inv-loop t x h d n counts g s₀ places₀ first s places = Inner t x d n g s₀ places₀ s places
+Inv-loop t x h d n from here at₀ g size s₀ first at s = Inner t x d n g s₀ at₀ s at
 
 abbrev μ-loop : tie.MeasureT-loop
-μ-loop t x h d n counts g s₀ places₀ first s places = d - s
+μ-loop t x h d n from here at₀ g size s₀ first at s = size - s
 
 abbrev Inv-walk : tie.InvT-walk
-Inv-walk t x h d n counts g₀ s₀ places₀ g s places = Outer t x d n g₀ s₀ places₀ g s places
+Inv-walk t x h d n from here at₀ g₀ size s₀ at g s = Outer t x d n from here g s at
 
 abbrev μ-walk : tie.MeasureT-walk
-μ-walk t x h d n counts g₀ s₀ places₀ g s places = n - g
+μ-walk t x h d n from here at₀ g₀ size s₀ at g s = n - g
 
-walk-holds : tie.Need-walk-holds Inv-loop μ-loop Inv-walk μ-walk
-walk-holds c = here-at (c .before .before .before .before .pre .0) _ _ _ 0 (c .before .before .before .before .pre .1 .0) (c .before .before .before .before .pre .1 .1) (sym (length-map (c .before .before .before .before .args .from .places) _) ∙ c .before .before .before .before .good .1 .1 .1 .1 .1 .1 .0 .1 .1 .1 .1 .0 .1 .0 .1)
+-- src/next.rt:73:18
+past-gap-requires : tie.Need-past-gap-requires Inv-loop μ-loop Inv-walk μ-walk
+past-gap-requires c κs = omega (arith, c .before .before .pre .1 .0 .1)
 
-segment-at-requires : tie.Need-segment-at-requires Inv-loop μ-loop Inv-walk μ-walk
-segment-at-requires c κs = search needs
+-- src/next.rt:75:14
+past-record-requires : tie.Need-past-record-requires Inv-loop μ-loop Inv-walk μ-walk
+past-record-requires c κs = (omega (arith, c .before .before .before .before .pre .1 .0 .1), omega (arith, c .before .before .before .before .pre .1 .1 .0 (c .if1 .taken)), c .before .before .before .before .pre .1 .1 .1 (c .if1 .taken))
 
-add-first : tie.Need-add-first Inv-loop μ-loop Inv-walk μ-walk
-add-first c = omega (arith, within (c .before .before .before .before .before .before .pre .0) (c .before .walk .inv .on .inside) (c .segment-at .ensures))
-
+-- src/next.rt:78:9
 wide-size-requires : tie.Need-wide-size-requires Inv-loop μ-loop Inv-walk μ-walk
 wide-size-requires c κs = search needs
 
-mul-first : tie.Need-mul-first Inv-loop μ-loop Inv-walk μ-walk
-mul-first c = omega (arith, c .wide-size .ensures)
-
-add-first-2 : tie.Need-add-first-2 Inv-loop μ-loop Inv-walk μ-walk
-add-first-2 c = omega (arith, within (c .before .before .before .before .before .before .before .pre .0) (c .before .before .walk .inv .on .inside) (c .before .segment-at .ensures), c .wide-size .ensures)
-
-loop-holds : tie.Need-loop-holds Inv-loop μ-loop Inv-walk μ-walk
-loop-holds c = here-at (c .before .before .before .before .before .before .before .pre .0) _ _ _ 0 (c .before .before .walk .inv .on .inside) (c .before .before .walk .inv .on .high) (c .before .before .walk .inv .room)
-
+-- src/next.rt:79:9
 wide-size-requires-2 : tie.Need-wide-size-requires-2 Inv-loop μ-loop Inv-walk μ-walk
 wide-size-requires-2 c κs = search needs
 
-add-v : tie.Need-add-v Inv-loop μ-loop Inv-walk μ-walk
-add-v c = omega (arith, within (c .before .before .before .before .before .before .before .before .before .before .pre .0) (c .before .before .before .before .before .walk .inv .on .inside) (c .before .before .before .before .segment-at .ensures), c .before .before .before .wide-size .ensures, c .wide-size2 .ensures)
+-- src/next.rt:80:5
+walk-holds : tie.Need-walk-holds Inv-loop μ-loop Inv-walk μ-walk
+walk-holds c = starts (c .before .before .before .before .before .before .pre .0) _ (c .before .before .before .before .before .before .args .from) _ (⊎-elim (λ w. ap spotOf (w .2) ∙ passed-record _ (w .0 .taken) (w .1 .ensures)) (λ w. ap spotOf (w .1) ∙ passed-gap _ (w .0 .left) (c .before .before .before .past-gap .ensures)) (c .before .before .if1 .came)) (c .wide-size2 .ensures) (c .before .before .before .before .before .before .pre .1 .0 .0) (c .before .before .before .before .before .before .pre .1 .0 .1) (sym (length-map (c .before .before .before .before .before .before .args .from .places) _) ∙ c .before .before .before .before .before .before .good .1 .1 .1 .1 .1 .0 .1 .1 .1 .1 .0 .1 .0 .1)
 
-shared-slice-read-v : tie.Need-shared-slice-read-v Inv-loop μ-loop Inv-walk μ-walk
-shared-slice-read-v c = omega (arith, within (c .before .before .before .before .before .before .before .before .before .before .before .pre .0) (c .before .before .before .before .before .before .walk .inv .on .inside) (c .before .before .before .before .before .segment-at .ensures), c .before .before .before .before .wide-size .ensures, c .before .wide-size2 .ensures)
+-- src/next.rt:81:21
+segment-at-requires : tie.Need-segment-at-requires Inv-loop μ-loop Inv-walk μ-walk
+segment-at-requires c κs = search needs
 
-add-s : tie.Need-add-s Inv-loop μ-loop Inv-walk μ-walk
-add-s c = omega arith
+-- src/next.rt:81:21
+add-first : tie.Need-add-first Inv-loop μ-loop Inv-walk μ-walk
+add-first c = omega (arith, within (walks (c .before .before .before .before .before .before .before .before .pre .0)) (c .before .walk .inv .on .inside) (c .segment-at .ensures))
 
-loop-less : tie.Need-loop-less Inv-loop μ-loop Inv-walk μ-walk
-loop-less c = omega arith
-
-loop-again : tie.Need-loop-again Inv-loop μ-loop Inv-walk μ-walk
-loop-again c = record { room = c .before .before .before .before .loop .inv .room; on = selectors-pass (c .before .before .before .before .loop .inv .on) (c .before .before .before .loop-test .taken) (selector-is (c .before .before .before .before .before .before .before .before .before .before .before .before .pre .0) _ _ (c .before .before .before .before .before .before .segment-at .ensures) (omega (arith, c .before .before .before .before .before .wide-size .ensures)) (c .before .before .wide-size2 .ensures)) (c .if1 .taken) }
-
+-- src/next.rt:81:62
 wide-size-requires-3 : tie.Need-wide-size-requires-3 Inv-loop μ-loop Inv-walk μ-walk
 wide-size-requires-3 c κs = search needs
 
+-- src/next.rt:81:58
+mul-first : tie.Need-mul-first Inv-loop μ-loop Inv-walk μ-walk
+mul-first c = omega (arith, c .wide-size3 .ensures)
+
+-- src/next.rt:81:21
+add-first-2 : tie.Need-add-first-2 Inv-loop μ-loop Inv-walk μ-walk
+add-first-2 c = omega (arith, within (walks (c .before .before .before .before .before .before .before .before .before .pre .0)) (c .before .before .walk .inv .on .inside) (c .before .segment-at .ensures), c .wide-size3 .ensures)
+
+-- src/next.rt:82:9
+loop-holds : tie.Need-loop-holds Inv-loop μ-loop Inv-walk μ-walk
+loop-holds c = here-at (walks (c .before .before .before .before .before .before .before .before .before .pre .0)) _ _ _ 0 (c .before .before .walk .inv .on .inside) (c .before .before .walk .inv .on .high) (c .before .before .walk .inv .room)
+
+-- src/next.rt:83:23
+add-v : tie.Need-add-v Inv-loop μ-loop Inv-walk μ-walk
+add-v c = omega (arith, within (walks (c .before .before .before .before .before .before .before .before .before .before .before .pre .0)) (c .before .before .before .before .walk .inv .on .inside) (c .before .before .before .segment-at .ensures), c .before .before .wide-size3 .ensures, c .before .before .before .before .before .before .wide-size .ensures)
+
+-- src/next.rt:83:21
+shared-slice-read-v : tie.Need-shared-slice-read-v Inv-loop μ-loop Inv-walk μ-walk
+shared-slice-read-v c = omega (arith, within (walks (c .before .before .before .before .before .before .before .before .before .before .before .before .pre .0)) (c .before .before .before .before .before .walk .inv .on .inside) (c .before .before .before .before .segment-at .ensures), c .before .before .before .wide-size3 .ensures, c .before .before .before .before .before .before .before .wide-size .ensures)
+
+-- src/next.rt:85:17
+add-s : tie.Need-add-s Inv-loop μ-loop Inv-walk μ-walk
+add-s c = omega arith
+
+-- src/next.rt:82:9
+loop-less : tie.Need-loop-less Inv-loop μ-loop Inv-walk μ-walk
+loop-less c = omega arith
+
+-- src/next.rt:82:9
+loop-again : tie.Need-loop-again Inv-loop μ-loop Inv-walk μ-walk
+loop-again c = on-gap (c .before .before .before .before .before .before .before .before .before .before .before .before .before .pre .0) (c .before .before .before .loop .inv) (omega (arith, c .before .before .loop-test .taken, c .before .before .before .before .before .before .before .before .wide-size .ensures)) (selector-is (walks (c .before .before .before .before .before .before .before .before .before .before .before .before .before .pre .0)) _ _ (c .before .before .before .before .before .segment-at .ensures) (omega (arith, c .before .before .before .before .wide-size3 .ensures)) refl) (c .if2 .taken)
+
+-- src/next.rt:90:21
+wide-size-requires-4 : tie.Need-wide-size-requires-4 Inv-loop μ-loop Inv-walk μ-walk
+wide-size-requires-4 c κs = search needs
+
+-- src/next.rt:91:25
 mul-p : tie.Need-mul-p Inv-loop μ-loop Inv-walk μ-walk
 mul-p c = omega arith
 
-array-copy-out-p : tie.Need-array-copy-out-p Inv-loop μ-loop Inv-walk μ-walk
-array-copy-out-p c = omega (arith, c .before .before .before .before .before .before .loop .inv .room, c .before .before .before .before .before .before .before .before .before .before .before .before .before .before .pre .0 .few, c .wide-size3 .ensures)
+-- src/next.rt:91:25
+element-copy-out-p : tie.Need-element-copy-out-p Inv-loop μ-loop Inv-walk μ-walk
+element-copy-out-p c = omega (arith, c .before .before .before .before .before .before .before .before .before .before .before .before .before .before .before .pre .0 .few, c .wide-size4 .ensures)
 
-mul-if3 : tie.Need-mul-if3 Inv-loop μ-loop Inv-walk μ-walk
-mul-if3 c = omega arith
+-- src/next.rt:93:24
+count-of-requires : tie.Need-count-of-requires Inv-loop μ-loop Inv-walk μ-walk
+count-of-requires c κs = omega (arith, c .before .before .before .before .before .before .before .before .before .before .before .before .before .before .before .before .pre .0 .header, c .before .before .if3 .taken)
 
-shared-slice-read-if3 : tie.Need-shared-slice-read-if3 Inv-loop μ-loop Inv-walk μ-walk
-shared-slice-read-if3 c = omega (arith, c .before .before .before .before .before .before .before .before .before .before .before .before .before .before .before .before .pre .0 .room, c .before .before .before .before .before .before .before .before .before .before .before .before .before .before .before .before .pre .0 .few, c .before .before .wide-size3 .ensures)
+-- src/next.rt:95:37
+found-next-requires : tie.Need-found-next-requires Inv-loop μ-loop Inv-walk μ-walk
+found-next-requires c κs = omega (arith, c .before .before .before .before .before .before .before .before .loop-test .taken, c .before .before .before .before .before .before .before .before .before .before .before .before .before .before .wide-size .ensures)
 
-found-requires : tie.Need-found-requires Inv-loop μ-loop Inv-walk μ-walk
-found-requires c κs = omega (arith, c .before .before .before .before .before .before .before .before .before .before .before .before .before .before .before .before .before .before .pre .0 .few)
+-- src/next.rt:97:42
+add-t44 : tie.Need-add-t44 Inv-loop μ-loop Inv-walk μ-walk
+add-t44 c = omega (arith, may-raise (c .before .before .before .before .before .before .before .before .before .before .before .before .before .before .before .before .before .before .before .pre .0) (c .before .before .before .before .before .before .before .before .before .loop .inv) (omega (arith, c .before .before .before .before .before .before .before .before .loop-test .taken, c .before .before .before .before .before .before .before .before .before .before .before .before .before .before .wide-size .ensures)) (selector-is (walks (c .before .before .before .before .before .before .before .before .before .before .before .before .before .before .before .before .before .before .before .pre .0)) _ _ (c .before .before .before .before .before .before .before .before .before .before .before .segment-at .ensures) (omega (arith, c .before .before .before .before .before .before .before .before .before .before .wide-size3 .ensures)) refl) (c .before .before .before .before .before .before .if2 .left) (c .before .before .before .before .before .if3 .taken) (c .before .before .before .before .wide-size4 .ensures) (c .before .before .count-of .ensures) (omega (arith, c .before .if4 .taken)))
 
-add-t37 : tie.Need-add-t37 Inv-loop μ-loop Inv-walk μ-walk
-add-t37 c = omega (arith, c .before .before .shared-slice-known5 .given (c .before .before .before .before .wide-size3 .result), c .before .if3 .taken)
+-- src/next.rt:97:21
+mul-t46 : tie.Need-mul-t46 Inv-loop μ-loop Inv-walk μ-walk
+mul-t46 c = omega arith
 
-mul-places : tie.Need-mul-places Inv-loop μ-loop Inv-walk μ-walk
-mul-places c = omega arith
+-- src/next.rt:97:21
+element-set-from-at : tie.Need-element-set-from-at Inv-loop μ-loop Inv-walk μ-walk
+element-set-from-at c = omega (arith, c .before .before .before .before .before .before .before .before .before .before .before .before .before .before .before .before .before .before .before .pre .0 .few, c .before .before .before .before .wide-size4 .ensures)
 
-array-set-from-places : tie.Need-array-set-from-places Inv-loop μ-loop Inv-walk μ-walk
-array-set-from-places c = omega (arith, c .before .before .before .before .before .before .before .before .before .before .loop .inv .room, c .before .before .before .before .before .before .before .before .before .before .before .before .before .before .before .before .before .before .pre .0 .few, c .before .before .before .before .wide-size3 .ensures)
-
+-- src/next.rt:98:21
 add-s-2 : tie.Need-add-s-2 Inv-loop μ-loop Inv-walk μ-walk
 add-s-2 c = omega arith
 
+-- src/next.rt:82:9
 loop-less-2 : tie.Need-loop-less-2 Inv-loop μ-loop Inv-walk μ-walk
 loop-less-2 c = omega arith
 
+-- src/next.rt:82:9
 loop-again-2 : tie.Need-loop-again-2 Inv-loop μ-loop Inv-walk μ-walk
-loop-again-2 c = record { room = simp length-set (c .before .before .before .before .before .before .before .before .before .before .loop .inv .room); on = selectors-go (c .before .before .before .before .before .before .before .before .before .before .loop .inv .on) (c .before .before .before .before .before .before .before .before .before .loop-test .taken) (selector-is (c .before .before .before .before .before .before .before .before .before .before .before .before .before .before .before .before .before .before .pre .0) _ _ (c .before .before .before .before .before .before .before .before .before .before .before .before .segment-at .ensures) (omega (arith, c .before .before .before .before .before .before .before .before .before .before .before .wide-size .ensures)) (c .before .before .before .before .before .before .before .before .wide-size2 .ensures)) (c .before .before .before .before .before .before .if1 .left) (named-yes (c .before .before .before .before .before .before .before .before .before .before .before .before .before .before .before .before .before .before .pre .0) _ _ (c .before .before .before .before .before .if2 .taken) (c .before .before .before .before .wide-size3 .ensures) (c .before .if3 .taken)) (visible-go _ (c .if4 .left)) (raise-numbers (c .before .before .before .before .before .before .before .before .before .before .loop .places) (c .before .before .before .before .wide-size3 .ensures)) }
+loop-again-2 c = on-go (c .before .before .before .before .before .before .before .before .before .before .before .before .before .before .before .before .before .before .before .pre .0) (c .before .before .before .before .before .before .before .before .before .loop .inv) (omega (arith, c .before .before .before .before .before .before .before .before .loop-test .taken, c .before .before .before .before .before .before .before .before .before .before .before .before .before .before .wide-size .ensures)) (selector-is (walks (c .before .before .before .before .before .before .before .before .before .before .before .before .before .before .before .before .before .before .before .pre .0)) _ _ (c .before .before .before .before .before .before .before .before .before .before .before .segment-at .ensures) (omega (arith, c .before .before .before .before .before .before .before .before .before .before .wide-size3 .ensures)) refl) (c .before .before .before .before .before .before .if2 .left) (c .before .before .before .before .before .if3 .taken) (c .before .before .before .before .wide-size4 .ensures) (c .before .before .count-of .ensures) (omega (arith, c .before .if4 .taken)) (omega (arith, c .if5 .left))
 
-lost-at-requires : tie.Need-lost-at-requires Inv-loop μ-loop Inv-walk μ-walk
-lost-at-requires c κs = search needs
+-- src/next.rt:101:65
+cast-t49 : tie.Need-cast-t49 Inv-loop μ-loop Inv-walk μ-walk
+cast-t49 c = omega arith
 
-lost-at-requires-2 : tie.Need-lost-at-requires-2 Inv-loop μ-loop Inv-walk μ-walk
-lost-at-requires-2 c κs = search needs
+-- src/next.rt:101:29
+next-refused-requires : tie.Need-next-refused-requires Inv-loop μ-loop Inv-walk μ-walk
+next-refused-requires c κs = search needs
 
+-- src/next.rt:103:61
+cast-t51 : tie.Need-cast-t51 Inv-loop μ-loop Inv-walk μ-walk
+cast-t51 c = omega arith
+
+-- src/next.rt:103:25
+next-refused-requires-2 : tie.Need-next-refused-requires-2 Inv-loop μ-loop Inv-walk μ-walk
+next-refused-requires-2 c κs = search needs
+
+-- src/next.rt:105:9
 add-g : tie.Need-add-g Inv-loop μ-loop Inv-walk μ-walk
 add-g c = omega (arith, c .before .loop .inv .on .inside)
 
-at-end-requires : tie.Need-at-end-requires Inv-loop μ-loop Inv-walk μ-walk
-at-end-requires c κs = search needs
+-- src/next.rt:107:25
+next-ends-requires : tie.Need-next-ends-requires Inv-loop μ-loop Inv-walk μ-walk
+next-ends-requires c κs = search needs
 
+-- src/next.rt:109:30
 segment-at-requires-2 : tie.Need-segment-at-requires-2 Inv-loop μ-loop Inv-walk μ-walk
 segment-at-requires-2 c κs = search needs
 
+-- src/next.rt:109:13
 load-requires : tie.Need-load-requires Inv-loop μ-loop Inv-walk μ-walk
-load-requires c κs = (omega (arith, within (c .before .before .before .before .before .before .before .before .before .before .before .pre .0) (c .before .if5 .left) (c .segment-at2 .ensures)), c .before .before .before .before .before .before .before .before .before .before .before .pre .0 .few)
+load-requires c κs = (omega (arith, within (walks (c .before .before .before .before .before .before .before .before .before .before .before .before .before .pre .0)) (c .before .if6 .left) (c .segment-at2 .ensures)), c .before .before .before .before .before .before .before .before .before .before .before .before .before .pre .0 .few)
 
+-- src/next.rt:80:5
 walk-less : tie.Need-walk-less Inv-loop μ-loop Inv-walk μ-walk
 walk-less c = omega arith
 
+-- src/next.rt:80:5
 walk-again : tie.Need-walk-again Inv-loop μ-loop Inv-walk μ-walk
-walk-again c = here-into (c .before .before .before .before .before .before .before .before .before .before .before .before .pre .0) (here-enter (c .before .before .before .before .before .before .before .before .before .before .before .before .pre .0) (c .before .before .before .before .loop .inv) (c .before .before .before .loop-test .left) (c .before .before .if5 .left) (c .before .segment-at2 .ensures) (c .load .ensures)) (here-whole (c .before .before .before .before .before .before .before .before .before .before .before .before .pre .0) (c .before .before .before .before .before .before .before .walk .inv))
+walk-again c = here-into (walks (c .before .before .before .before .before .before .before .before .before .before .before .before .before .before .pre .0)) (here-enter (walks (c .before .before .before .before .before .before .before .before .before .before .before .before .before .before .pre .0)) (c .before .before .before .before .loop .inv) (omega (arith, c .before .before .before .loop-test .left, c .before .before .before .before .before .before .before .before .before .wide-size .ensures)) (c .before .before .if6 .left) (c .before .segment-at2 .ensures) (c .load .ensures)) (here-whole (walks (c .before .before .before .before .before .before .before .before .before .before .before .before .before .before .pre .0)) (c .before .before .before .before .before .before .before .walk .inv))
 
+-- src/next.rt:67:1
 returns : tie.Need-returns Inv-loop μ-loop Inv-walk μ-walk
-unfolding spotOf
-returns c = c .found .ensures ∙ sight-there _ _ (c .before .before .before .before .before .before .before .before .before .before .before .loop .places) (c .before .if4 .taken) ∙ selectors-stay (c .before .before .before .before .before .before .before .before .before .before .before .loop .inv .on) (c .before .before .before .before .before .before .before .before .before .before .loop-test .taken) (selector-is (c .before .before .before .before .before .before .before .before .before .before .before .before .before .before .before .before .before .before .before .pre .0) _ _ (c .before .before .before .before .before .before .before .before .before .before .before .before .before .segment-at .ensures) (omega (arith, c .before .before .before .before .before .before .before .before .before .before .before .before .wide-size .ensures)) (c .before .before .before .before .before .before .before .before .before .wide-size2 .ensures)) (c .before .before .before .before .before .before .before .if1 .left) (named-yes (c .before .before .before .before .before .before .before .before .before .before .before .before .before .before .before .before .before .before .before .pre .0) _ _ (c .before .before .before .before .before .before .if2 .taken) (c .before .before .before .before .before .wide-size3 .ensures) (c .before .before .if3 .taken)) (visible-stay _ (c .before .if4 .taken)) ∙ here-whole (c .before .before .before .before .before .before .before .before .before .before .before .before .before .before .before .before .before .before .before .pre .0) (c .before .before .before .before .before .before .before .before .before .before .before .before .before .before .walk .inv)
+returns c = told-found _ _ _ _ _ (omega (arith, c .before .if5 .taken)) (c .before .before .before .before .before .wide-size4 .ensures) (on-stay (c .before .before .before .before .before .before .before .before .before .before .before .before .before .before .before .before .before .before .before .before .pre .0) (c .before .before .before .before .before .before .before .before .before .before .loop .inv) (omega (arith, c .before .before .before .before .before .before .before .before .before .loop-test .taken, c .before .before .before .before .before .before .before .before .before .before .before .before .before .before .before .wide-size .ensures)) (selector-is (walks (c .before .before .before .before .before .before .before .before .before .before .before .before .before .before .before .before .before .before .before .before .pre .0)) _ _ (c .before .before .before .before .before .before .before .before .before .before .before .before .segment-at .ensures) (omega (arith, c .before .before .before .before .before .before .before .before .before .before .before .wide-size3 .ensures)) refl) (c .before .before .before .before .before .before .before .if2 .left) (c .before .before .before .before .before .before .if3 .taken) (c .before .before .before .before .before .wide-size4 .ensures) (c .before .before .before .count-of .ensures) (omega (arith, c .before .before .if4 .taken)) (omega (arith, c .before .if5 .taken)) ∙ here-whole (walks (c .before .before .before .before .before .before .before .before .before .before .before .before .before .before .before .before .before .before .before .before .pre .0)) (c .before .before .before .before .before .before .before .before .before .before .before .before .before .walk .inv)) (c .found-next .ensures)
 
+-- src/next.rt:67:1
 returns-2 : tie.Need-returns-2 Inv-loop μ-loop Inv-walk μ-walk
-unfolding spotOf
-returns-2 c = c .lost-at .ensures ∙ selectors-lost (c .before .before .before .before .before .before .before .before .before .before .loop .inv .on) (c .before .before .before .before .before .before .before .before .before .loop-test .taken) (selector-is (c .before .before .before .before .before .before .before .before .before .before .before .before .before .before .before .before .before .before .pre .0) _ _ (c .before .before .before .before .before .before .before .before .before .before .before .before .segment-at .ensures) (omega (arith, c .before .before .before .before .before .before .before .before .before .before .before .wide-size .ensures)) (c .before .before .before .before .before .before .before .before .wide-size2 .ensures)) (c .before .before .before .before .before .before .if1 .left) (named-past (c .before .before .before .before .before .before .before .before .before .before .before .before .before .before .before .before .before .before .pre .0) _ _ (c .before .before .before .before .before .if2 .taken) (c .before .before .before .before .wide-size3 .ensures) (c .before .if3 .left)) ∙ here-whole (c .before .before .before .before .before .before .before .before .before .before .before .before .before .before .before .before .before .before .pre .0) (c .before .before .before .before .before .before .before .before .before .before .before .before .before .walk .inv)
+returns-2 c = told-lost _ _ (lost-place (c .before .before .before .before .before .before .before .before .before .before .before .before .before .before .before .before .before .before .before .pre .0) (c .before .before .before .before .before .before .before .before .before .loop .inv) (omega (arith, c .before .before .before .before .before .before .before .before .loop-test .taken, c .before .before .before .before .before .before .before .before .before .before .before .before .before .before .wide-size .ensures)) (selector-is (walks (c .before .before .before .before .before .before .before .before .before .before .before .before .before .before .before .before .before .before .before .pre .0)) _ _ (c .before .before .before .before .before .before .before .before .before .before .before .segment-at .ensures) (omega (arith, c .before .before .before .before .before .before .before .before .before .before .wide-size3 .ensures)) refl) (c .before .before .before .before .before .before .if2 .left) (c .before .before .before .before .before .if3 .taken) (c .before .before .before .before .wide-size4 .ensures) (c .before .before .count-of .ensures) (omega (arith, c .before .if4 .left)) ∙ here-whole (walks (c .before .before .before .before .before .before .before .before .before .before .before .before .before .before .before .before .before .before .before .pre .0)) (c .before .before .before .before .before .before .before .before .before .before .before .before .walk .inv)) (c .next-refused .ensures)
 
+-- src/next.rt:67:1
 returns-3 : tie.Need-returns-3 Inv-loop μ-loop Inv-walk μ-walk
-unfolding spotOf
-returns-3 c = c .lost-at2 .ensures ∙ selectors-lost (c .before .before .before .before .before .before .loop .inv .on) (c .before .before .before .before .before .loop-test .taken) (selector-is (c .before .before .before .before .before .before .before .before .before .before .before .before .before .before .pre .0) _ _ (c .before .before .before .before .before .before .before .before .segment-at .ensures) (omega (arith, c .before .before .before .before .before .before .before .wide-size .ensures)) (c .before .before .before .before .wide-size2 .ensures)) (c .before .before .if1 .left) (named-run (c .before .before .before .before .before .before .before .before .before .before .before .before .before .before .pre .0) _ (c .before .before .before .before .before .before .loop .places) (c .before .if2 .left)) ∙ here-whole (c .before .before .before .before .before .before .before .before .before .before .before .before .before .before .pre .0) (c .before .before .before .before .before .before .before .before .before .walk .inv)
+returns-3 c = told-lost _ _ (lost-run (c .before .before .before .before .before .before .before .before .before .before .before .before .before .before .before .pre .0) (c .before .before .before .before .before .loop .inv) (omega (arith, c .before .before .before .before .loop-test .taken, c .before .before .before .before .before .before .before .before .before .before .wide-size .ensures)) (selector-is (walks (c .before .before .before .before .before .before .before .before .before .before .before .before .before .before .before .pre .0)) _ _ (c .before .before .before .before .before .before .before .segment-at .ensures) (omega (arith, c .before .before .before .before .before .before .wide-size3 .ensures)) refl) (c .before .before .if2 .left) (c .before .if3 .left) ∙ here-whole (walks (c .before .before .before .before .before .before .before .before .before .before .before .before .before .before .before .pre .0)) (c .before .before .before .before .before .before .before .before .walk .inv)) (c .next-refused2 .ensures)
 
+-- src/next.rt:67:1
 returns-4 : tie.Need-returns-4 Inv-loop μ-loop Inv-walk μ-walk
-unfolding spotOf
-returns-4 c = c .at-end .ensures ∙ here-end (c .before .before .before .before .before .before .before .before .before .before .before .pre .0) (c .before .before .before .loop .inv) (c .before .before .loop-test .left) (c .before .if5 .taken) ∙ here-whole (c .before .before .before .before .before .before .before .before .before .before .before .pre .0) (c .before .before .before .before .before .before .walk .inv)
+returns-4 c = told-end _ _ (c .before .before .before .before .before .before .before .before .before .before .before .before .before .pre .0 .index .count) (here-end (walks (c .before .before .before .before .before .before .before .before .before .before .before .before .before .pre .0)) (c .before .before .before .loop .inv) (omega (arith, c .before .before .loop-test .left, c .before .before .before .before .before .before .before .before .wide-size .ensures)) (c .before .if6 .taken) ∙ here-whole (walks (c .before .before .before .before .before .before .before .before .before .before .before .before .before .pre .0)) (c .before .before .before .before .before .before .walk .inv)) (c .next-ends .ensures)
 
 pub first-from-spec : {M : Type 1} → statement M
 first-from-spec =
@@ -145,35 +208,39 @@ first-from-spec =
     μ-loop
     Inv-walk
     μ-walk
+    past-gap-requires
+    past-record-requires
+    wide-size-requires
+    wide-size-requires-2
     walk-holds
     segment-at-requires
     add-first
-    wide-size-requires
+    wide-size-requires-3
     mul-first
     add-first-2
     loop-holds
-    wide-size-requires-2
     add-v
     shared-slice-read-v
     add-s
     loop-less
     loop-again
-    wide-size-requires-3
+    wide-size-requires-4
     mul-p
-    array-copy-out-p
-    mul-if3
-    shared-slice-read-if3
-    found-requires
-    add-t37
-    mul-places
-    array-set-from-places
+    element-copy-out-p
+    count-of-requires
+    found-next-requires
+    add-t44
+    mul-t46
+    element-set-from-at
     add-s-2
     loop-less-2
     loop-again-2
-    lost-at-requires
-    lost-at-requires-2
+    cast-t49
+    next-refused-requires
+    cast-t51
+    next-refused-requires-2
     add-g
-    at-end-requires
+    next-ends-requires
     segment-at-requires-2
     load-requires
     walk-less

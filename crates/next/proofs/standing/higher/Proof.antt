@@ -1,0 +1,20 @@
+-- `next::standing::higher` meets its contract. Assumes nothing.
+use borrow.Author.Tests.{lt-ltb, le-ltb}
+use mathlib.Core.Path.{sym}
+use native.Mathlib.Omega.{arith}
+use borrow.Author.Needs.{needs}
+use Rattle.next.proofs.standing.higher.Statement.{statement}
+use Rattle.next.proofs.standing.higher.Tie as tie
+use Rattle.next.proofs.standing.higher.Reads as reads
+use Rattle.next.proofs.standing.higher.Lts as lts
+
+-- src/standing.rt:44:9
+returns : tie.Need-returns
+returns c = sym (rw (lt-ltb _ _ (c .if1 .taken)))
+
+-- src/standing.rt:40:1
+returns-2 : tie.Need-returns-2
+returns-2 c = sym (rw (le-ltb _ _ (c .if1 .left)))
+
+pub higher-spec : {M : Type 1} → statement M
+higher-spec = tie.close (tie.spec returns returns-2)
