@@ -5,6 +5,7 @@
 --     Sights, seek-sees            seek
 --     Steps, steps-are             seek, and then next until it says the end
 --     Paged, pages-are             seek, and then page until it says the end
+--     Onward, pages-onward         page from any cursor that belongs
 --     next-never-lost, page-never-lost     no cursor that belongs is refused
 --     sheet-lists, sheet-is        sheet
 -- Assumes nothing.
@@ -14,7 +15,7 @@ use Prim.Native.Nat.{ℕ, zero, suc, _+_, _-_, _*_, _/_, _%_, _≤_, _<_}
 use native.Mathlib.Omega.{arith}
 use native.Mathlib.Nat.{div-add-mod'}
 use mathlib.Core.Bool.{Bool, true, false, cond}
-use mathlib.Core.List.{List, [], _∷_, _++_, map, List·Memᴰ, List·Memᴰ·tail, List·Memᴰ·not-nil, List·Memᴰ·cases-cons, append-assoc, Memᴰ·append-right}
+use mathlib.Core.List.{List, [], _∷_, _++_, map, List·Memᴰ, List·Memᴰ·tail, List·Memᴰ·not-nil, List·Memᴰ·cases-cons, append-assoc, map-append, Memᴰ·append-right}
 use lib.ListN.{length, getD, take, drop, length-drop}
 use lib.Dec.{eqb, leb}
 use borrow.Author.Tests.{eqb-true, eqb-false, ne-eqb, leb-true, leb-false, le-leb}
@@ -41,13 +42,14 @@ use Rattle.walk.specs.declared.calls.SeekAnswer.the-variants.{Found, End, Refus
 use Rattle.walk.specs.Walk.Spots.{Reading, check-reading, Stop, spots}
 use Rattle.walk.specs.Walk.Tours.{firstOf, each-at}
 use Rattle.walk.specs.Reads.{Got, value, absent, get-lost, Found as Sighted, next, Written, page, belongs}
-use Rattle.walk.specs.Reads.Shown.{foundAt, pointOf, isShown, shown, Shows}
+use Rattle.walk.specs.Reads.Kept.{keep-append}
+use Rattle.walk.specs.Reads.Shown.{foundAt, pointOf, isShown, shown, Shows, shown-merged}
 use Rattle.walk.specs.Reads.Next.{next-is, next-spots, next-gap, next-end}
 use Rattle.walk.specs.Reads.From.{from-on}
 use Rattle.walk.specs.Reads.Belongs.{stop-belongs, belongs-standing}
-use Rattle.walk.specs.Reads.Standing.{Standing, at-stop, at-gap, at-end as standing-end}
+use Rattle.walk.specs.Reads.Standing.{Standing, at-stop, at-gap, at-end as standing-end, standing-on}
 use Rattle.walk.specs.Reads.Page.{listing, page-is}
-use Rattle.walk.specs.Reads.Pages.{paged-lost}
+use Rattle.walk.specs.Reads.Pages.{paged-lost, pages-are as paged-are}
 use Rattle.walk.specs.Walk.{Spot, Walked, stayed, ended, lost}
 use Rattle.walk.specs.Reads.Seek.{lookup, points, isFrom, from, seek-is, shown-shows}
 use Rattle.walk.specs.Answers.{cursorOf, gotTold, getAnswer, refusedSeek, seekTold as seekBy, seekFramed, seekAnswer}
@@ -58,7 +60,7 @@ use Rattle.listing.specs.declared.calls.PageAnswer.the-variants.{More}
 use Rattle.listing.specs.Answers.{pageAnswer, pageLeaves}
 use Rattle.sheet.specs.declared.calls.SheetAnswer.{SheetAnswer}
 use Rattle.sheet.specs.Answers.{prefixLong, prefixLast, listedIn, sheetAnswer, sheetLeaves}
-use Rattle.unchanged.specs.Paged.{PageCalls, last-page, page-then, pages-from}
+use Rattle.unchanged.specs.Paged.{PageCalls, last-page, page-then, calls-pages, pages-from}
 use Rattle.unchanged.specs.Read.{onward, get-answers, fits-frames, onward-are, prefixed, sheetOf, sheet-answers, sheet-records}
 use Rattle.kanyorith.specs.Told.{getTold, seekTold, sheetTold}
 use Rattle.kanyorith.specs.Exactly.Quick.{NextSays, next-1, next-4, next-11, next-10, next-found, next-end as next-end-0, next-exactly, PageSays, page-1, page-4, page-11, page-10, page-more as page-more-1, page-end as page-end-0, page-exactly}
@@ -369,3 +371,23 @@ sheet-lists {t} {x} {prefix} {out} {left} {n} {f} a some most last s =
     subst (λ (l : List ℕ). Listed t prefix out n f l) (sym (s .leaving))
     (subst (λ (v : Verdict). Listed t prefix out (v .number) (v .figure) (sheetLeaves t x prefix out (sheetAnswer t x prefix (length out)))) (sym (s .answers))
     (subst (listedBy (reading a) prefix out) (sym (sheet-answers (reading a) prefix (length out) ∙ sheet-of (reading a) prefix out some most last)) (listed-in (reading a) prefix out)))
+
+-- from any cursor that belongs, pages are the listing of the points from there on: of a last part of them all
+pub record Onward (t x c : List ℕ) : Type 0 where
+  pub passed : List Record
+  pub ahead : List Record
+  pub whole : points t ≡ passed ++ ahead
+  pub pages : (bytes : List ℕ) → Paged t x c bytes → bytes ≡ listing ahead
+
+pub pages-onward : {t x c : List ℕ} → Accepted t x → length c ≡ 66 → belongs (runCount t) x (spotOf (cursorIn c)) ≡ true → Onward t x c
+unfolding shown
+pages-onward {t} {x} {c} a l b =
+    let r = reading a in
+    let st = stands-in r c l b in
+    let on = standing-on (st .1) in
+    record {
+      passed = map pointOf (keep (isShown t) (on .0));
+      ahead = map pointOf (keep (isShown t) (st .0));
+      whole = sym (shown-merged r) ∙ ap (λ (ps : List Stop). map pointOf (keep (isShown t) ps)) (on .1) ∙ ap (map pointOf) (keep-append (isShown t) (on .0) (st .0)) ∙ map-append pointOf (keep (isShown t) (on .0)) (keep (isShown t) (st .0));
+      pages = λ bytes calls. let k = to-calls calls in paged-are r (st .1) (calls-pages r (k .1));
+    }

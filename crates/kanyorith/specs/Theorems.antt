@@ -15,7 +15,7 @@
 -- in that version and in key order.
 --     accepted-exactly, built-is-accepted, built-half
 --     the-points, points-rise              what the points of a tray are
---     get-gives, seek-gives, next-gives, pages-give, sheet-gives, prefixed-begin
+--     get-gives, seek-gives, next-gives, pages-give, pages-give-onward, sheet-gives, prefixed-begin
 --     page-writes                          with 24 bytes of room a page writes a record or says the end
 --     next-not-lost, page-not-lost         (get, seek and sheet are not lost by what they give)
 -- Demand 3. Folding neighbouring runs into one never changes what is read. For a sound tray, and any chain of folds of which none is refused, accepted
@@ -55,6 +55,8 @@ use Rattle.index.specs.Check.Theorems.{answers-segments}
 use Rattle.walk.specs.declared.calls.Seeks.{Seeks}
 use Rattle.walk.specs.declared.get.Gets.{Gets}
 use Rattle.walk.specs.Reads.Seek.{points, points-rise as rising-points}
+use Rattle.walk.specs.Reads.{belongs}
+use Rattle.walk.specs.Code.{spotOf}
 use Rattle.walk.specs.Reads.Page.{listing}
 use Rattle.walk.specs.Reads.Prefix.{sheet-begins}
 use Rattle.unchanged.specs.Read.{onward, prefixed}
@@ -77,7 +79,7 @@ use Rattle.folded.specs.Fold.Leaves.{leaves-written as fold-leaves-written}
 use Rattle.kanyorith.specs.Promises.{CheckTray, CheckIndex, Build, valueLeft, Get, runLeft, placeLeft, cursorLeft, Sought, Seek, Next, pageCursorLeft, Paging, Page, Sheet, Fold}
 use Rattle.kanyorith.specs.Told.Laws.{index-zero, build-zero, build-above, get-above, seek-above, page-above, sheet-zero, sheet-above, fold-zero, fold-above}
 use Rattle.kanyorith.specs.Told.{indexTold, getTold, sheetTold, foldTold}
-use Rattle.kanyorith.specs.Reads.{Accepted, reading, Looked, get-looks, Sights, seek-sees, same-sights, Steps, steps-are, Paged, pages-are, next-never-lost, page-never-lost, Listed, sheet-lists}
+use Rattle.kanyorith.specs.Reads.{Accepted, reading, Looked, get-looks, Sights, seek-sees, same-sights, Steps, steps-are, Paged, pages-are, Onward, pages-onward, next-never-lost, page-never-lost, Listed, sheet-lists}
 use Rattle.kanyorith.specs.Folds.{Folds, folds-calls, sound-tray, Unchanged, unchanged, not-12, is-12, whole-bounds}
 use Rattle.kanyorith.specs.Left.{page-kept, refused-page, page-filled, listed-behind}
 use Rattle.kanyorith.specs.Cursors.{cursorIn}
@@ -323,6 +325,10 @@ next-gives a s steps = steps-are a s steps
 pub pages-give : {t x key c k bytes : List ℕ} {run place f r p : ℕ} → Accepted t x → Seek t x key c run place 0 f r p k → Paged t x k bytes
     → bytes ≡ listing (onward t (be 8 key 0))
 pages-give a s pages = pages-are a s pages
+
+-- the same from any cursor that belongs: the listing of the points from there on, which are a last part of them all
+pub pages-give-onward : {t x c : List ℕ} → Accepted t x → length c ≡ 66 → belongs (runCount t) x (spotOf (cursorIn c)) ≡ true → Onward t x c
+pages-give-onward a l b = pages-onward a l b
 
 -- with 24 bytes of room each page that isn't refused writes a record or says the end, through any index
 pub page-writes : {t x c out k left : List ℕ} {i : ℕ} → Page t x c out 0 1 i k left → 24 ≤ length out → 0 < i
