@@ -13,6 +13,8 @@ pub mod Cursors
 pub mod Reads
 -- folding, before and after
 pub mod Folds
+-- the cursors that calls hand back
+pub mod Handed
 -- what page and sheet leave
 pub mod Left
 -- what holds along any walk

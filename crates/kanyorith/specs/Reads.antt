@@ -56,15 +56,15 @@ use Rattle.walk.specs.Answers.{cursorOf, gotTold, getAnswer, refusedSeek, seekT
 use Rattle.walk.specs.Answers.Hands.{spot-back}
 use Rattle.next.specs.Answers.{refusedNext, nextTold, nextFramed, nextAnswer}
 use Rattle.listing.specs.declared.calls.PageAnswer.{PageAnswer}
-use Rattle.listing.specs.declared.calls.PageAnswer.the-variants.{More}
+use Rattle.listing.specs.declared.calls.PageAnswer.the-variants.{More, End as PageEnd, Refused as PageRefused}
 use Rattle.listing.specs.Answers.{pageAnswer, pageLeaves}
 use Rattle.sheet.specs.declared.calls.SheetAnswer.{SheetAnswer}
 use Rattle.sheet.specs.Answers.{prefixLong, prefixLast, listedIn, sheetAnswer, sheetLeaves}
 use Rattle.unchanged.specs.Paged.{PageCalls, last-page, page-then, calls-pages, pages-from}
 use Rattle.unchanged.specs.Read.{onward, get-answers, fits-frames, onward-are, prefixed, sheetOf, sheet-answers, sheet-records}
-use Rattle.kanyorith.specs.Told.{getTold, seekTold, sheetTold}
+use Rattle.kanyorith.specs.Told.{getTold, seekTold, pageTold, sheetTold}
 use Rattle.kanyorith.specs.Exactly.Quick.{NextSays, next-1, next-4, next-11, next-10, next-found, next-end as next-end-0, next-exactly, PageSays, page-1, page-4, page-11, page-10, page-more as page-more-1, page-end as page-end-0, page-exactly}
-use Rattle.kanyorith.specs.Told.Laws.{refused-above, index-zero, page-more, page-end}
+use Rattle.kanyorith.specs.Told.Laws.{not-zero, index-zero, page-more, page-end}
 use Rattle.kanyorith.specs.Promises.{CheckIndex, valueLeft, Get, runLeft, placeLeft, cursorLeft, Sought, Seek, Next, pageCursorLeft, Page, Sheet}
 
 -- check index accepts the index for the tray
@@ -258,16 +258,18 @@ later : {t x : List ℕ} (out : List ℕ) {outs : ℕ → List ℕ} {i : ℕ} {c
 later out (last-page e) = last-page e
 later out (page-then e calls) = page-then e (later out calls)
 
--- the cursor of a page that is not refused, and of a seek
-page-moved : (c : List ℕ) {a : PageAnswer} {k : Cursor} {c′ : List ℕ} → a ≡ More → c′ ≡ pageCursorLeft a k c → cursorIn c′ ≡ k
-unfolding pageCursorLeft
-page-moved c {k = k} more e = ap cursorIn (e ∙ ap (λ (a : PageAnswer). pageCursorLeft a k c) more) ∙ cursor-back k
+-- the cursor of a page, of a seek or of a next that is not refused
+pub page-moved : (c : List ℕ) (a : PageAnswer) {k : Cursor} {f : ℕ} {c′ : List ℕ} → told 0 f ≡ pageTold a → c′ ≡ pageCursorLeft a k c → cursorIn c′ ≡ k
+unfolding pageCursorLeft pageTold
+page-moved c More {k} t e = ap cursorIn e ∙ cursor-back k
+page-moved c PageEnd {k} t e = ap cursorIn e ∙ cursor-back k
+page-moved c (PageRefused r) t e = not-zero r t
 
-seek-moved : (c : List ℕ) (a : SeekAnswer) {k : Cursor} {f : ℕ} {c′ : List ℕ} → told 0 f ≡ seekTold a → c′ ≡ cursorLeft a k c → cursorIn c′ ≡ k
+pub seek-moved : (c : List ℕ) (a : SeekAnswer) {k : Cursor} {f : ℕ} {c′ : List ℕ} → told 0 f ≡ seekTold a → c′ ≡ cursorLeft a k c → cursorIn c′ ≡ k
 unfolding cursorLeft seekTold
 seek-moved c (Found run place) {k} t e = ap cursorIn e ∙ cursor-back k
 seek-moved c End {k} t e = ap cursorIn e ∙ cursor-back k
-seek-moved c (Refused r) t e = let l = refused-above r in let z : 0 ≡ verdictOf r .number = ap (λ (v : Verdict). v .number) t in absurd (omega arith)
+seek-moved c (Refused r) t e = not-zero r t
 
 -- they are the calls that the definitions speak of
 to-calls : {t x c bytes : List ℕ} → Paged t x c bytes → (outs : ℕ → List ℕ) × PageCalls t x outs 0 (cursorIn c) bytes
@@ -283,7 +285,7 @@ to-calls {t} {x} {c} (then-more {out = out} {c′ = c′} {bytes = bytes} p rest
     let on = to-calls rest in (
       before out (on .0),
       subst (λ (l : List ℕ). PageCalls t x (before out (on .0)) 0 (cursorIn c) (l ++ bytes)) (sym (ap₂ (λ (n : ℕ) (l : List ℕ). take (24 * n) l) (q .counts) (q .leaving)))
-          (page-then more (subst (λ (k : Cursor). PageCalls t x (before out (on .0)) 1 k bytes) (page-moved c more (q .cursor-left)) (later out (on .1)))),
+          (page-then more (subst (λ (k : Cursor). PageCalls t x (before out (on .0)) 1 k bytes) (page-moved c (pageAnswer t x (cursorIn c) out .answer) (q .answers) (q .cursor-left)) (later out (on .1)))),
     )
 
 pub pages-are : {t x key cursor cursor′ bytes : List ℕ} {run place f run′ place′ : ℕ} → Accepted t x

@@ -10,6 +10,7 @@
 --     ..-exactly           a number and figure are given exactly when the table of document 01 says so (the tables: `Exactly.antt`)
 --     ..-untouched         a refusal leaves the outputs as they were
 --     ..-behind            no call touches an output past what it writes
+--     seek-hands, next-hands, page-hands     the cursors that calls hand back belong
 -- Demand 2. An index is accepted exactly when it follows the published REMIX rules for that tray. What the library builds is accepted. Through an
 -- accepted index, whoever built it, every lookup, seek and listing gives just the points of the full merge whose newest version isn't deleted,
 -- in that version and in key order.
@@ -80,6 +81,7 @@ use Rattle.kanyorith.specs.Promises.{CheckTray, CheckIndex, Build, value
 use Rattle.kanyorith.specs.Told.Laws.{index-zero, build-zero, build-above, get-above, seek-above, page-above, sheet-zero, sheet-above, fold-zero, fold-above}
 use Rattle.kanyorith.specs.Told.{indexTold, getTold, sheetTold, foldTold}
 use Rattle.kanyorith.specs.Reads.{Accepted, reading, Looked, get-looks, Sights, seek-sees, same-sights, Steps, steps-are, Paged, pages-are, Onward, pages-onward, next-never-lost, page-never-lost, Listed, sheet-lists}
+use Rattle.kanyorith.specs.Handed.{seek-belongs, next-belongs, page-belongs}
 use Rattle.kanyorith.specs.Folds.{Folds, folds-calls, sound-tray, Unchanged, unchanged, not-12, is-12, whole-bounds}
 use Rattle.kanyorith.specs.Left.{page-kept, refused-page, page-filled, listed-behind}
 use Rattle.kanyorith.specs.Cursors.{cursorIn}
@@ -268,6 +270,18 @@ page-behind {t} {x} {c} {out} {i = i} p =
       long = ap length e ∙ w .long;
       same = ap (drop (24 * i)) e ∙ subst (λ (j : ℕ). drop (24 * j) (pageLeaves t x (cursorIn c) out) ≡ drop (24 * j) out) (sym (p .paging .counts)) (w .behind);
     }
+
+-- CURSORS
+
+-- the cursor that a call hands back belongs to the same tray and index, whatever the index says: so none is refused by 11 that was not touched
+pub seek-hands : {t x key c k : List ℕ} {run place f r p : ℕ} → Seek t x key c run place 0 f r p k → belongs (runCount t) x (spotOf (cursorIn k)) ≡ true
+seek-hands p = seek-belongs p
+
+pub next-hands : {t x c k : List ℕ} {run place f r p : ℕ} → length c ≡ 66 → Next t x c run place 0 f r p k → belongs (runCount t) x (spotOf (cursorIn k)) ≡ true
+next-hands l p = next-belongs l p
+
+pub page-hands : {t x c out k left : List ℕ} {f i : ℕ} → length c ≡ 66 → Page t x c out 0 f i k left → belongs (runCount t) x (spotOf (cursorIn k)) ≡ true
+page-hands l p = page-belongs l p
 
 -- DEMAND 2: INDEXES
 

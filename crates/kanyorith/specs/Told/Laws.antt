@@ -1,5 +1,5 @@
 -- What a number says of the answer behind it: 0 is an answer, any other a refusal.
---     refused-above                      a refusal's number is above 0
+--     refused-above, not-zero            a refusal's number is above 0
 --     tray-zero, index-zero, build-zero, sheet-zero, fold-zero     the answer behind 0
 --     build-refused, sheet-refused, fold-refused, ..               a refusal behind any other number
 --     get-cases, seek-cases, page-cases                            the answer behind a number and figure
@@ -48,7 +48,7 @@ refused-above (Cursor n) = omega arith
 refused-above (RunLength n) = omega arith
 
 -- so a refusal is not told by 0,
-not-zero : {Q : Type 0} {f : ℕ} (r : Refusal) → told 0 f ≡ verdictOf r → Q
+pub not-zero : {Q : Type 0} {f : ℕ} (r : Refusal) → told 0 f ≡ verdictOf r → Q
 not-zero {f = f} r e =
     let l = refused-above r in
     let z : 0 ≡ verdictOf r .number = ap (λ (v : Verdict). v .number) e in
