@@ -29,8 +29,11 @@
 //! ```
 
 pub mod answer;
+pub mod compare;
+pub mod fuzz;
 pub mod naive;
 pub mod raw;
+pub mod samples;
 
 mod ffi;
 mod points;
