@@ -57,8 +57,13 @@ pub struct Paged {
     pub out: Vec<u8>,
 }
 
+/// Whether an output still has its pattern from a place on.
+pub fn untouched(out: &[u8], from: usize) -> bool {
+    out.iter().enumerate().skip(from).all(|(at, &byte)| byte == pattern(GUARD + at))
+}
+
 /// The byte of the pattern at a place.
-pub fn pattern(at: usize) -> u8 {
+fn pattern(at: usize) -> u8 {
     (at as u8).wrapping_mul(151) ^ 0x5a
 }
 
