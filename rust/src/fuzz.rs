@@ -43,10 +43,10 @@ fn read(script: &mut Script, call: usize, tray: &[u8], index: &[u8]) {
             compare::check_index(tray, index);
         }
         4 => {
-            compare::get(tray, index, &draw_key(script, tray));
+            compare::get(tray, index, &samples::key_near(script, tray));
         }
         5 => {
-            compare::seek(tray, index, &draw_key(script, tray));
+            compare::seek(tray, index, &samples::key_near(script, tray));
         }
         6 => next(script, tray, index),
         7 => page(script, tray, index),
@@ -85,23 +85,6 @@ fn draw_index(script: &mut Script, tray: &[u8]) -> Vec<u8> {
 fn draw_bytes(script: &mut Script) -> Vec<u8> {
     let length = script.below(256);
     (0..length).map(|_| script.byte()).collect()
-}
-
-/// A key of the tray, its neighbour, or any key.
-fn draw_key(script: &mut Script, tray: &[u8]) -> [u8; 8] {
-    let records =
-        tray.get(4 + 2 * usize::from(tray.first().copied().unwrap_or(0))..).unwrap_or(&[]).as_chunks::<25>().0;
-    let choice = script.below(8);
-    if records.is_empty() || choice == 0 {
-        return script.wide().to_be_bytes();
-    }
-    let record = &records[script.below(records.len())];
-    let number = u64::from_be_bytes(*record.first_chunk().expect("a record has a key"));
-    match choice {
-        1 => number.wrapping_add(1).to_be_bytes(),
-        2 => number.wrapping_sub(1).to_be_bytes(),
-        _ => number.to_be_bytes(),
-    }
 }
 
 /// A small number, one near a bound, or one of 64 bits.
@@ -152,7 +135,7 @@ fn page(script: &mut Script, tray: &[u8], index: &[u8]) {
 }
 
 fn sheet(script: &mut Script, tray: &[u8], index: &[u8]) {
-    let mut prefix = draw_key(script, tray).to_vec();
+    let mut prefix = samples::key_near(script, tray).to_vec();
     prefix.push(script.byte());
     prefix.truncate([6, 1, 2, 3, 4, 5, 7, 8, 9, 0][script.below(10)]);
     if script.below(8) == 0 {

@@ -189,6 +189,23 @@ pub fn damage(draw: &mut impl Draw, bytes: &mut Vec<u8>) {
     }
 }
 
+/// A key of the tray, its neighbour, or any key. The tray may be any bytes.
+pub fn key_near(draw: &mut impl Draw, tray: &[u8]) -> [u8; 8] {
+    let head = 4 + 2 * usize::from(tray.first().copied().unwrap_or(0));
+    let records = tray.get(head..).unwrap_or(&[]).as_chunks::<RECORD_SIZE>().0;
+    let choice = draw.below(8);
+    if records.is_empty() || choice == 0 {
+        return draw.wide().to_be_bytes();
+    }
+    let record = &records[draw.below(records.len())];
+    let number = u64::from_be_bytes(*record.first_chunk().expect("a record has a key"));
+    match choice {
+        1 => number.wrapping_add(1).to_be_bytes(),
+        2 => number.wrapping_sub(1).to_be_bytes(),
+        _ => number.to_be_bytes(),
+    }
+}
+
 /// A cursor: one that belongs, such a one with a number changed, the end, or numbers at random.
 pub fn cursor(draw: &mut impl Draw, tray: &[u8], index: &[u8]) -> Numbers {
     let segments = index.get(4..8).map_or(0, |s| s.iter().fold(0, |sum, &byte| sum * 256 + usize::from(byte)));
