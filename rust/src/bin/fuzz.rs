@@ -1,8 +1,10 @@
-//! Drives `fuzz::run_one` for a number of seconds: `fuzz SECONDS SEED [CORPUS]`.
+//! Drives `fuzz::step` for a number of seconds: `fuzz SECONDS SEED CORPUS`, or `fuzz --collect SECONDS SEED CORPUS`.
 //!
-//! Inputs are drawn at random, or mutated from those of the corpus and from those that ran before. It ends with status 1 at the first
-//! input on which library and twin disagree, which it writes to the working folder, and else says how many it tried.
+//! Inputs are drawn at random, or mutated from those of the corpus and from those that ran before. At the first input on which library
+//! and twin disagree it writes the input to the corpus, where the tests run it from then on, and ends with status 1. With `--collect`
+//! it also writes the shortest input that it met for each call and number, which is how the corpus is made.
 
+use std::collections::BTreeMap;
 use std::error::Error;
 use std::panic;
 use std::path::{Path, PathBuf};
@@ -10,7 +12,7 @@ use std::process::ExitCode;
 use std::time::{Duration, Instant};
 use std::{env, fs};
 
-use kanyorith::fuzz::run_one;
+use kanyorith::fuzz::step;
 use kanyorith::samples::{Draw, Rng};
 
 /// How many inputs are kept to mutate, and how long one may grow.
@@ -18,25 +20,30 @@ const KEPT: usize = 512;
 const LONGEST: usize = 2048;
 
 struct Arguments {
+    collect: bool,
     seconds: u64,
     seed: u64,
-    corpus: Option<PathBuf>,
+    corpus: PathBuf,
 }
 
 fn arguments() -> Option<Arguments> {
-    let words: Vec<String> = env::args().skip(1).collect();
-    let (seconds, seed, corpus) = match words.as_slice() {
-        [seconds, seed] => (seconds, seed, None),
-        [seconds, seed, corpus] => (seconds, seed, Some(PathBuf::from(corpus))),
-        _ => return None,
+    let mut words: Vec<String> = env::args().skip(1).collect();
+    let collect = words.first().is_some_and(|word| word == "--collect");
+    if collect {
+        words.remove(0);
+    }
+    let [seconds, seed, corpus] = words.as_slice() else {
+        return None;
     };
-    Some(Arguments { seconds: seconds.parse().ok()?, seed: seed.parse().ok()?, corpus })
+    Some(Arguments { collect, seconds: seconds.parse().ok()?, seed: seed.parse().ok()?, corpus: corpus.into() })
 }
 
-/// The files of the corpus, by name, so that a seed gives the same inputs everywhere.
-fn load(folder: &Path) -> Result<Vec<Vec<u8>>, Box<dyn Error>> {
-    let mut paths: Vec<PathBuf> =
-        fs::read_dir(folder)?.map(|entry| entry.map(|entry| entry.path())).collect::<Result<_, _>>()?;
+/// The files of the corpus in the order of their names, so that a seed gives the same inputs everywhere.
+fn load(corpus: &Path) -> Result<Vec<Vec<u8>>, Box<dyn Error>> {
+    let mut paths = Vec::new();
+    for entry in fs::read_dir(corpus)? {
+        paths.push(entry?.path());
+    }
     paths.sort();
     paths.iter().map(|path| Ok(fs::read(path)?)).collect()
 }
@@ -72,13 +79,13 @@ fn mutate(rng: &mut Rng, data: &mut Vec<u8>, kept: &[Vec<u8>]) {
         }
         _ => {
             if let Some(byte) = data.get_mut(at) {
-                *byte = if rng.chance(50) { rng.byte() } else { *byte ^ 1 << rng.below(8) };
+                *byte = if rng.chance(50) { rng.byte() } else { *byte ^ (1 << rng.below(8)) };
             }
         }
     }
 }
 
-/// Keeps an input in the place of another once there are enough.
+/// Keeps an input to mutate, in the place of another once there are enough.
 fn keep(rng: &mut Rng, kept: &mut Vec<Vec<u8>>, data: Vec<u8>) {
     if kept.len() < KEPT {
         kept.push(data);
@@ -88,27 +95,45 @@ fn keep(rng: &mut Rng, kept: &mut Vec<Vec<u8>>, data: Vec<u8>) {
     }
 }
 
+/// The shortest inputs by call and number.
+type Shortest = BTreeMap<(&'static str, u32), Vec<u8>>;
+
+fn note(shortest: &mut Shortest, outcome: (&'static str, u32), data: &[u8]) {
+    let held = shortest.entry(outcome).or_insert_with(|| data.to_vec());
+    if data.len() < held.len() {
+        *held = data.to_vec();
+    }
+}
+
+/// How many inputs were tried until the time was over, all without a disagreement.
 fn drive(arguments: &Arguments) -> Result<u64, Box<dyn Error>> {
-    let mut kept = arguments.corpus.as_deref().map_or(Ok(Vec::new()), load)?;
+    let mut kept = load(&arguments.corpus)?;
     let mut rng = Rng::new(arguments.seed);
+    let mut shortest = Shortest::new();
     let until = Instant::now() + Duration::from_secs(arguments.seconds);
     let mut tried = 0;
     while Instant::now() < until {
         let data = draw(&mut rng, &kept);
-        if panic::catch_unwind(|| run_one(&data)).is_err() {
-            let name = format!("disagreement-{}-{tried}", arguments.seed);
-            fs::write(&name, &data)?;
-            return Err(format!("input {tried} disagrees; it is in {name}").into());
-        }
+        let Ok(outcome) = panic::catch_unwind(|| step(&data)) else {
+            let path = arguments.corpus.join(format!("disagreement-{}-{tried}", arguments.seed));
+            fs::write(&path, &data)?;
+            return Err(format!("library and twin disagree on input {tried}, kept as {}", path.display()).into());
+        };
         tried += 1;
+        note(&mut shortest, outcome, &data);
         keep(&mut rng, &mut kept, data);
+    }
+    if arguments.collect {
+        for ((call, number), data) in shortest {
+            fs::write(arguments.corpus.join(format!("{call}-{number}")), data)?;
+        }
     }
     Ok(tried)
 }
 
 fn main() -> ExitCode {
     let Some(arguments) = arguments() else {
-        eprintln!("usage: fuzz SECONDS SEED [CORPUS]");
+        eprintln!("usage: fuzz [--collect] SECONDS SEED CORPUS");
         return ExitCode::from(2);
     };
     match drive(&arguments) {
