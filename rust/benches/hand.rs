@@ -1,6 +1,8 @@
 //! The same rules written by hand for speed, without proofs: what the library is measured against. Every call has the shape of
 //! `kanyorith::raw`, takes any bytes, and is compared with the twin before it is timed.
 
+use std::hint::select_unpredictable;
+
 use kanyorith::answer::Answer;
 
 const RECORD: usize = 25;
@@ -169,30 +171,26 @@ fn segment_is_right(tray: &Tray, index: &Index, g: usize, places: &mut PerRun) -
             return false;
         }
     }
-    // The anchor is the first key: a rank just below it lets the first record in, and its key must then be the anchor.
     let anchor = be64(head);
-    let mut last = 0;
-    let mut last_run = 0;
-    let mut spelled = 0;
-    for (j, &selector) in selectors.iter().enumerate() {
-        if selector == PLACEHOLDER {
-            break;
-        }
+    let (mut last, mut last_run, mut spelled) = (anchor, 0, 0);
+    for &selector in selectors.iter().take_while(|&&selector| selector != PLACEHOLDER) {
         let run = usize::from(selector & 63);
         if places[run] >= tray.counts[run] {
             return false;
         }
         let record = tray.record(run, places[run]);
         let key = be64(record);
-        let old = j > 0 && key == last;
-        let follows = if j == 0 { key == anchor } else { key > last || (old && run > last_run) };
-        if !follows || selector != run as u8 | record[8] << 6 | u8::from(old) << 7 {
+        // Whether a key repeats cannot be foretold: it decides the mark as a number, and no branch hangs on it.
+        let first = spelled == 0;
+        let old = (key == last) & !first;
+        let follows = ((key > last) & !first) | (old & (run > last_run)) | ((key == anchor) & first);
+        if !follows | (selector != run as u8 | record[8] << 6 | u8::from(old) << 7) {
             return false;
         }
         places[run] += 1;
         last = key;
         last_run = run;
-        spelled = j + 1;
+        spelled += 1;
     }
     if spelled == 0 || selectors[spelled..].iter().any(|&selector| selector != PLACEHOLDER) {
         return false;
@@ -200,38 +198,64 @@ fn segment_is_right(tray: &Tray, index: &Index, g: usize, places: &mut PerRun) -
     (0..tray.h).all(|run| places[run] >= tray.counts[run] || be64(tray.record(run, places[run])) > last)
 }
 
-/// A loser tree over the runs `from..=to`: the least key comes first, of equal keys the lowest run.
-struct Losers<'t, 'a> {
-    tray: &'t Tray<'a>,
-    nodes: [u128; 64],
-    leaves: usize,
-    winner: u128,
-    places: PerRun,
+/// Key and run of a record that comes up in a merge. A run without a record has the greatest key and a run past all others.
+#[derive(Clone, Copy)]
+struct Rank {
+    key: u64,
+    run: u64,
 }
 
-const NONE: u128 = u128::MAX;
+const NONE: Rank = Rank { key: u64::MAX, run: 64 };
+
+impl Rank {
+    /// The lesser and the greater of two. Which it is cannot be foretold.
+    #[inline(always)]
+    fn sorted(self, other: Rank) -> (Rank, Rank) {
+        let less = (self.key < other.key) | ((self.key == other.key) & (self.run < other.run));
+        let lesser = Rank {
+            key: select_unpredictable(less, self.key, other.key),
+            run: select_unpredictable(less, self.run, other.run),
+        };
+        let greater = Rank {
+            key: select_unpredictable(less, other.key, self.key),
+            run: select_unpredictable(less, other.run, self.run),
+        };
+        (lesser, greater)
+    }
+}
+
+/// A loser tree over the runs `from..=to`: the least key comes first, of equal keys the lowest run. The key after each run's next one
+/// is read ahead, so that no comparison waits for it.
+struct Losers<'t, 'a> {
+    tray: &'t Tray<'a>,
+    nodes: [Rank; 64],
+    ahead: [Rank; 64],
+    leaves: usize,
+    winner: Rank,
+    places: PerRun,
+}
 
 impl<'t, 'a> Losers<'t, 'a> {
     fn new(tray: &'t Tray<'a>, from: usize, to: usize) -> Self {
         let leaves = tray.h.next_power_of_two();
-        let mut losers = Losers { tray, nodes: [NONE; 64], leaves, winner: NONE, places: [0; 64] };
+        let (nodes, ahead) = ([NONE; 64], [NONE; 64]);
+        let mut losers = Losers { tray, nodes, ahead, leaves, winner: NONE, places: [0; 64] };
         let mut winners = [NONE; 128];
         for run in from..=to {
-            winners[leaves + run] = losers.rank(run);
+            winners[leaves + run] = losers.rank(run, 0);
+            losers.ahead[run] = losers.rank(run, 1);
         }
         for node in (1..leaves).rev() {
-            let (left, right) = (winners[2 * node], winners[2 * node + 1]);
-            winners[node] = left.min(right);
-            losers.nodes[node] = left.max(right);
+            (winners[node], losers.nodes[node]) = winners[2 * node].sorted(winners[2 * node + 1]);
         }
         losers.winner = winners[1];
         losers
     }
 
     #[inline(always)]
-    fn rank(&self, run: usize) -> u128 {
-        if self.places[run] < self.tray.counts[run] {
-            u128::from(be64(self.tray.record(run, self.places[run]))) << 6 | run as u128
+    fn rank(&self, run: usize, place: u32) -> Rank {
+        if place < self.tray.counts[run] {
+            Rank { key: be64(self.tray.record(run, place)), run: run as u64 }
         } else {
             NONE
         }
@@ -240,82 +264,135 @@ impl<'t, 'a> Losers<'t, 'a> {
     /// Key and run that come next.
     #[inline(always)]
     fn least(&self) -> Option<(u64, usize)> {
-        (self.winner != NONE).then_some(((self.winner >> 6) as u64, (self.winner & 63) as usize))
+        (self.winner.run < 64).then_some((self.winner.key, (self.winner.run & 63) as usize))
     }
 
     #[inline(always)]
     fn advance(&mut self, run: usize) {
-        self.places[run] += 1;
-        let mut rising = self.rank(run);
+        let place = self.places[run] + 1;
+        self.places[run] = place;
+        let mut rising = self.ahead[run];
+        self.ahead[run] = self.rank(run, place + 1);
         let mut node = (self.leaves + run) / 2;
         while node > 0 {
-            let held = self.nodes[node & 63];
-            self.nodes[node & 63] = held.max(rising);
-            rising = held.min(rising);
+            (rising, self.nodes[node & 63]) = rising.sorted(self.nodes[node & 63]);
             node /= 2;
         }
         self.winner = rising;
     }
 }
 
-/// Hands each key's versions on: the key, its selectors, and the places before them.
-fn each_key(tray: &Tray, mut take: impl FnMut(u64, &[u8], &PerRun)) {
-    let mut losers = Losers::new(tray, 0, tray.h - 1);
-    let mut selectors = [0; 64];
-    let mut before = [0; 64];
-    while let Some((key, mut run)) = losers.least() {
-        let mut versions = 0;
-        loop {
-            let gone = tray.record(run, losers.places[run])[8];
-            selectors[versions] = run as u8 | gone << 6 | u8::from(versions > 0) << 7;
-            versions += 1;
-            losers.advance(run);
-            match losers.least() {
-                Some((next, next_run)) if next == key => run = next_run,
-                _ => break,
-            }
+/// What the builder's segments are written to: an output, or nothing where they are only counted.
+trait Sink {
+    fn open(&mut self, key: u64, places: &PerRun, h: usize);
+    fn put(&mut self, used: usize, selector: u8);
+    /// Takes back the selectors from a place on, and opens the next segment with them.
+    fn carry(&mut self, from: usize, d: usize, key: u64, places: &PerRun, h: usize);
+    fn close(&mut self, used: usize, d: usize);
+}
+
+struct Counted(usize, [u8; 128]);
+
+impl Sink for Counted {
+    fn open(&mut self, _: u64, _: &PerRun, _: usize) {
+        self.0 += 1;
+    }
+    #[inline(always)]
+    fn put(&mut self, used: usize, selector: u8) {
+        self.1[used & 127] = selector;
+    }
+    fn carry(&mut self, _: usize, _: usize, _: u64, _: &PerRun, _: usize) {
+        self.0 += 1;
+    }
+    fn close(&mut self, _: usize, _: usize) {}
+}
+
+/// The output, and where the current segment's selectors start.
+struct Out<'o> {
+    bytes: &'o mut [u8],
+    at: usize,
+    segments: u32,
+}
+
+impl Sink for Out<'_> {
+    fn open(&mut self, key: u64, places: &PerRun, h: usize) {
+        let head = &mut self.bytes[self.at..self.at + 8 + 2 * h];
+        head[..8].copy_from_slice(&key.to_be_bytes());
+        for (offset, place) in head[8..].as_chunks_mut::<2>().0.iter_mut().zip(places) {
+            *offset = (*place as u16).to_be_bytes();
         }
-        take(key, &selectors[..versions], &before);
-        for selector in &selectors[..versions] {
-            before[usize::from(selector & 63)] += 1;
+        self.at += 8 + 2 * h;
+        self.segments += 1;
+    }
+
+    #[inline(always)]
+    fn put(&mut self, used: usize, selector: u8) {
+        self.bytes[self.at + used] = selector;
+    }
+
+    fn carry(&mut self, from: usize, d: usize, key: u64, places: &PerRun, h: usize) {
+        let mut before = *places;
+        let mut carried = [0; 128];
+        carried[..d - from].copy_from_slice(&self.bytes[self.at + from..self.at + d]);
+        for selector in &carried[..d - from] {
+            before[usize::from(selector & 63)] -= 1;
         }
+        self.close(from, d);
+        self.open(key, &before, h);
+        self.bytes[self.at..self.at + d - from].copy_from_slice(&carried[..d - from]);
+    }
+
+    fn close(&mut self, used: usize, d: usize) {
+        self.bytes[self.at + used..self.at + d].fill(PLACEHOLDER);
+        self.at += d;
     }
 }
 
-fn count_segments(tray: &Tray, d: usize) -> usize {
-    let (mut segments, mut used) = (0, d);
-    each_key(tray, |_, selectors, _| {
-        if used + selectors.len() > d {
-            segments += 1;
-            used = 0;
+/// The builder, record after record: where a segment is full within a key, the key's records are carried into the next one.
+fn pack(tray: &Tray, d: usize, out: &mut impl Sink) {
+    let mut losers = Losers::new(tray, 0, tray.h - 1);
+    let Some((mut last, _)) = losers.least() else {
+        return;
+    };
+    out.open(last, &losers.places, tray.h);
+    let (mut used, mut begun, mut first) = (0, 0, true);
+    while let Some((key, run)) = losers.least() {
+        let old = (key == last) & !first;
+        if used == d {
+            if old {
+                out.carry(begun, d, key, &losers.places, tray.h);
+                used = d - begun;
+            } else {
+                out.close(d, d);
+                out.open(key, &losers.places, tray.h);
+                used = 0;
+            }
+            begun = 0;
         }
-        used += selectors.len();
-    });
-    segments
+        let gone = tray.record(run, losers.places[run])[8];
+        out.put(used, run as u8 | gone << 6 | u8::from(old) << 7);
+        begun = select_unpredictable(old, begun, used);
+        used += 1;
+        last = key;
+        first = false;
+        losers.advance(run);
+    }
+    out.close(used, d);
 }
 
-fn write_index(tray: &Tray, d: usize, out: &mut [u8]) -> usize {
-    let (mut segments, mut used, mut at) = (0u32, d, 8);
-    each_key(tray, |key, selectors, before| {
-        if used + selectors.len() > d {
-            out[at..at + d - used].fill(PLACEHOLDER);
-            at += d - used;
-            out[at..at + 8].copy_from_slice(&key.to_be_bytes());
-            for (offset, place) in out[at + 8..at + 8 + 2 * tray.h].as_chunks_mut::<2>().0.iter_mut().zip(before) {
-                *offset = (*place as u16).to_be_bytes();
-            }
-            at += 8 + 2 * tray.h;
-            used = 0;
-            segments += 1;
-        }
-        out[at..at + selectors.len()].copy_from_slice(selectors);
-        at += selectors.len();
-        used += selectors.len();
-    });
-    out[at..at + d - used].fill(PLACEHOLDER);
-    out[..4].copy_from_slice(&[tray.h as u8, d as u8, 0, 0]);
-    out[4..8].copy_from_slice(&segments.to_be_bytes());
-    at + d - used
+fn count_segments(tray: &Tray, d: usize) -> usize {
+    let mut counted = Counted(0, [0; 128]);
+    pack(tray, d, &mut counted);
+    counted.0
+}
+
+fn write_index(tray: &Tray, d: usize, bytes: &mut [u8]) -> usize {
+    let mut out = Out { bytes, at: 8, segments: 0 };
+    pack(tray, d, &mut out);
+    let (at, segments) = (out.at, out.segments);
+    bytes[..4].copy_from_slice(&[tray.h as u8, d as u8, 0, 0]);
+    bytes[4..8].copy_from_slice(&segments.to_be_bytes());
+    at
 }
 
 struct Reading<'a> {
@@ -337,14 +414,15 @@ impl<'a> Reading<'a> {
         Ok(Reading { tray, index })
     }
 
-    /// Walks from a selector; `visit` says of each unmarked record whether the walk stays there.
+    /// Walks from a selector to the first unmarked record of which `stays` is true. It is asked of marked records too, so that no branch
+    /// hangs on a mark.
     #[inline(always)]
     fn walk(
         &self,
         g: usize,
         j: usize,
         places: &mut PerRun,
-        mut visit: impl FnMut(&'a [u8; RECORD]) -> bool,
+        stays: impl Fn(&'a [u8; RECORD]) -> bool,
     ) -> Ruled<Option<Stop>> {
         let mut from = j;
         for g in g..self.index.s {
@@ -360,7 +438,7 @@ impl<'a> Reading<'a> {
                 if place >= self.tray.counts[run] {
                     return refuse(10, (g * 128 + j) as u64);
                 }
-                if selector & MARKS == 0 && visit(self.tray.record(run, place)) {
+                if (selector & MARKS == 0) & stays(self.tray.record(run, place)) {
                     return Ok(Some(Stop { g, j, run }));
                 }
                 places[run] = place + 1;
@@ -368,6 +446,68 @@ impl<'a> Reading<'a> {
             from = 0;
         }
         Ok(None)
+    }
+
+    /// Lists from a selector on: `take` is handed the unmarked records of a segment at once, and says at which it stops.
+    #[inline(always)]
+    fn list(
+        &self,
+        g: usize,
+        j: usize,
+        places: &mut PerRun,
+        mut take: impl FnMut(&[u32]) -> Option<usize>,
+    ) -> Ruled<Option<Stop>> {
+        let (mut at, mut selectors) = ([0; 128], [0; 128]);
+        let mut from = j;
+        for g in g..self.index.s {
+            if from == 0 {
+                self.index.load(g, self.tray.h, places);
+            }
+            let (mut count, mut lost) = (0, None);
+            for (j, &selector) in self.index.segment(g).1.iter().enumerate().skip(from) {
+                if selector == PLACEHOLDER {
+                    continue;
+                }
+                let run = usize::from(selector & 63);
+                let place = places[run];
+                if place >= self.tray.counts[run] {
+                    lost = Some(j);
+                    break;
+                }
+                // Noted in any case, in a place that the next record takes again where this one is marked.
+                at[count & 127] = self.tray.starts[run] + place * RECORD as u32;
+                selectors[count & 127] = j;
+                count += usize::from(selector & MARKS == 0);
+                places[run] = place + 1;
+            }
+            if let Some(stop) = take(&at[..count]) {
+                let j = selectors[stop];
+                *places = self.places(g, j);
+                return Ok(Some(Stop { g, j, run: usize::from(self.index.segment(g).1[j]) }));
+            }
+            if let Some(j) = lost {
+                return refuse(10, (g * 128 + j) as u64);
+            }
+            from = 0;
+        }
+        Ok(None)
+    }
+
+    /// The offset of each run plus its selectors before a place.
+    fn places(&self, g: usize, j: usize) -> PerRun {
+        let mut places = [0; 64];
+        self.index.load(g, self.tray.h, &mut places);
+        for selector in &self.index.segment(g).1[..j] {
+            places[usize::from(selector & 63)] += 1;
+        }
+        places[self.tray.h..].fill(0);
+        places
+    }
+
+    /// The record that stands at a place of the tray.
+    #[inline(always)]
+    fn record(&self, at: u32) -> &'a [u8; RECORD] {
+        self.tray.bytes[at as usize..].first_chunk().expect("a record")
     }
 
     fn seek(&self, key: u64, places: &mut PerRun) -> Ruled<Option<Stop>> {
@@ -398,12 +538,7 @@ impl<'a> Reading<'a> {
         if g >= self.index.s || j >= self.index.d {
             return refuse(11, g as u64);
         }
-        let mut places = [0; 64];
-        self.index.load(g, self.tray.h, &mut places);
-        for selector in &self.index.segment(g).1[..j] {
-            places[usize::from(selector & 63)] += 1;
-        }
-        places[self.tray.h..].fill(0);
+        let places = self.places(g, j);
         if places[..63].iter().zip(&cursor[3..]).any(|(place, number)| *place != u32::from(*number)) {
             return refuse(11, g as u64);
         }
@@ -530,16 +665,17 @@ pub fn page(tray: &[u8], index: &[u8], cursor: &mut Cursor, out: &mut [u8], coun
         let Some((g, j, mut places)) = reading.belongs(cursor)? else {
             return Ok(0);
         };
-        let mut rooms = out.as_chunks_mut::<LISTED>().0.iter_mut();
-        let all = rooms.len();
-        let stop = reading.walk(g, j, &mut places, |record| match rooms.next() {
-            Some(room) => {
-                list(record, room);
-                false
+        let rooms = out.as_chunks_mut::<LISTED>().0;
+        let mut written = 0;
+        let stop = reading.list(g, j, &mut places, |records| {
+            let fit = records.len().min(rooms.len() - written);
+            for (room, at) in rooms[written..].iter_mut().zip(records) {
+                list(reading.record(*at), room);
             }
-            None => true,
+            written += fit;
+            (fit < records.len()).then_some(fit)
         });
-        *count = (all - rooms.len()) as u64;
+        *count = written as u64;
         let stop = stop?;
         *cursor = reading.cursor(&stop, &places);
         Ok(u64::from(stop.is_some()))
@@ -554,41 +690,50 @@ pub fn sheet(tray: &[u8], index: &[u8], prefix: &[u8], out: &mut [u8]) -> Answer
     let mut ruled = || {
         let reading = Reading::open(tray, index)?;
         let (from, to) = bounds(prefix)?;
-        let mut remembered: [&[u8; RECORD]; REMEMBERED] = [&[0; RECORD]; REMEMBERED];
-        let (mut places, mut listed) = ([0; 64], 0);
+        let mut remembered = [0; REMEMBERED];
         let start = reading.index.start(from);
-        reading.walk(start, 0, &mut places, |record| {
-            let key = be64(record);
-            if listed > 0 || key >= from {
-                if key >= to {
-                    return true;
-                }
-                if listed < REMEMBERED {
-                    remembered[listed] = record;
-                }
-                listed += 1;
+        let listed = each_of_sheet(&reading, start, from, to, |nth, at| {
+            if nth < REMEMBERED {
+                remembered[nth] = at;
             }
-            false
         })?;
         if out.len() < listed * LISTED {
             return refuse(7, (listed * LISTED) as u64);
         }
-        let mut rooms = out.as_chunks_mut::<LISTED>().0[..listed].iter_mut();
+        let rooms = &mut out.as_chunks_mut::<LISTED>().0[..listed];
         if listed <= REMEMBERED {
-            rooms.zip(remembered).for_each(|(room, record)| list(record, room));
+            rooms.iter_mut().zip(remembered).for_each(|(room, at)| list(reading.record(at), room));
         } else {
-            let mut begun = false;
-            reading.walk(start, 0, &mut places, |record| {
-                begun |= be64(record) >= from;
-                if !begun {
-                    return false;
-                }
-                rooms.next().map(|room| list(record, room)).is_none()
-            })?;
+            each_of_sheet(&reading, start, from, to, |nth, at| list(reading.record(at), &mut rooms[nth]))?;
         }
         Ok(listed as u64)
     };
     answer(ruled())
+}
+
+/// Hands on the records of a sheet, each with its number; gives how many there are.
+#[inline(always)]
+fn each_of_sheet(
+    reading: &Reading,
+    start: usize,
+    from: u64,
+    to: u64,
+    mut take: impl FnMut(usize, u32),
+) -> Ruled<usize> {
+    let (mut places, mut listed) = ([0; 64], 0);
+    reading.list(start, 0, &mut places, |records| {
+        let key = |at: &u32| be64(reading.record(*at));
+        let below = if listed > 0 { 0 } else { records.iter().position(|at| key(at) >= from).unwrap_or(records.len()) };
+        for (nth, at) in records.iter().enumerate().skip(below) {
+            if key(at) >= to {
+                return Some(nth);
+            }
+            take(listed, *at);
+            listed += 1;
+        }
+        None
+    })?;
+    Ok(listed)
 }
 
 pub fn fold(tray: &[u8], a: u64, b: u64, out: &mut [u8]) -> Answer {
@@ -599,21 +744,19 @@ pub fn fold(tray: &[u8], a: u64, b: u64, out: &mut [u8]) -> Answer {
         }
         tray.check()?;
         let (a, b) = (a as usize, b as usize);
-        let mut kept = [0u32; 4096];
+        let mut kept = [0u32; 4097];
         let mut count = 0;
         let mut losers = Losers::new(&tray, a, b);
         let mut last = None;
         while let Some((key, run)) = losers.least() {
-            if last != Some(key) {
-                if count < kept.len() {
-                    kept[count] = tray.at(run, losers.places[run]) as u32;
-                }
-                count += 1;
-                last = Some(key);
-            }
+            // Noted in any case, in a place that the next record takes again where this one is old.
+            let fresh = last != Some(key);
+            kept[count.min(4096)] = tray.at(run, losers.places[run]) as u32;
+            count += usize::from(fresh);
+            last = Some(key);
             losers.advance(run);
         }
-        if count > kept.len() {
+        if count > 4096 {
             return refuse(12, count as u64);
         }
         write_folded(&tray, a, b, &kept[..count], out)

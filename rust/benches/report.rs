@@ -87,7 +87,7 @@ What each call takes, and what the same work takes elsewhere. `cargo bench --off
 | Build | library: `rt staticlib kanyorith`; Rust: `cargo bench`, opt-level 3, one codegen unit, no processor-specific flags |
 | Input | trays of H runs of 4,096 records, drawn from fixed seeds; each key in 1 to 4 runs, 5 % of the records gone, 200 points a sheet before the gone ones are taken out. Folds into one: H runs of 4,096 / H records |
 | Buffers | outputs are allocated and zeroed once, before the first round, and not cleared between rounds; inputs stay as warm as the caches hold them |
-| Times | medians of 31 rounds; in each round the variants of a call run one after another. In brackets: how many times the library's time |
+| Times | processor time of the measuring thread, medians of 31 rounds; in each round the variants of a call run one after another. In brackets: how many times the library's time |
 | Answers | before anything is timed, library, hand, heap and map give the twin's answers and bytes |
 
 The columns:
@@ -121,16 +121,17 @@ const LEFT: f64 = 70.0;
 const TOP: f64 = 50.0;
 const WIDTH: f64 = 420.0;
 const HEIGHT: f64 = 300.0;
-/// The decades of the plot's times: 0.1 to 1,000 ns.
-const LEAST: f64 = -1.0;
-const MOST: f64 = 3.0;
+/// The decades of the plot's times: 1 to 1,000 ns.
+const LEAST: i32 = 0;
+const MOST: i32 = 3;
 
 fn across(h: usize) -> f64 {
     LEFT + WIDTH * (h as f64).ln() / 63f64.ln()
 }
 
 fn down(time: f64) -> f64 {
-    TOP + HEIGHT * (MOST - time.log10().clamp(LEAST, MOST)) / (MOST - LEAST)
+    let (least, most) = (f64::from(LEAST), f64::from(MOST));
+    TOP + HEIGHT * (most - time.log10().clamp(least, most)) / (most - least)
 }
 
 /// The time of a call at a number of runs, for D 64 where it depends on D.
@@ -143,6 +144,9 @@ fn time(rows: &[Row], h: usize, call: &str, variant: &str) -> Option<f64> {
 fn line(rows: &[Row], call: &str, variant: &str, colour: &str, dashes: &str) -> String {
     let points: Vec<(f64, f64)> =
         RUNS.iter().filter_map(|&h| Some((across(h), down(time(rows, h, call, variant)?)))).collect();
+    if points.is_empty() {
+        return String::new();
+    }
     let path: Vec<String> = points.iter().map(|(x, y)| format!("{x:.1},{y:.1}")).collect();
     let mut text = format!(
         "  <polyline fill=\"none\" stroke=\"{colour}\" stroke-width=\"2\"{dashes} points=\"{}\"/>\n",
@@ -160,7 +164,7 @@ fn label(x: f64, y: f64, anchor: &str, text: &str) -> String {
 
 fn grid() -> String {
     let mut text = String::new();
-    for decade in -1..=3 {
+    for decade in LEAST..=MOST {
         let (y, time) = (down(10f64.powi(decade)), 10f64.powi(decade));
         let (right, stroke) = (LEFT + WIDTH, "stroke=\"#dddddd\"");
         writeln!(text, "  <line x1=\"{LEFT}\" y1=\"{y:.1}\" x2=\"{right}\" y2=\"{y:.1}\" {stroke}/>")
