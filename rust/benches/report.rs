@@ -57,6 +57,26 @@ pub fn table(rows: &[Row]) -> String {
     text
 }
 
+/// Each call in a line: the library's times at 1, 8 and 63 runs, and between which bounds the hand-written rules lie.
+fn summary(rows: &[Row]) -> String {
+    let mut text =
+        String::from("| Call | ns a | H 1 | H 8 | H 63 | hand, times the library's |\n|---|---|---|---|---|---|\n");
+    let mut calls: Vec<&Row> = Vec::new();
+    for row in rows {
+        if calls.iter().all(|seen| seen.call != row.call) {
+            calls.push(row);
+        }
+    }
+    for &Row { call, unit, .. } in calls {
+        let times = RUNS.map(|h| time(rows, h, call, "library").map_or(String::new(), |time| format!("{time:.1}")));
+        let ratios =
+            rows.iter().filter(|row| row.call == call).filter_map(|row| Some(row.time("hand")? / row.time("library")?));
+        let (least, most) = ratios.fold((f64::MAX, 0f64), |(least, most), ratio| (least.min(ratio), most.max(ratio)));
+        writeln!(text, "| {call} | {unit} | {} | {least:.2} to {most:.2} |", times.join(" | ")).expect("a string");
+    }
+    text
+}
+
 /// The model of the processor, as the system names it.
 fn processor() -> String {
     let info = fs::read_to_string("/proc/cpuinfo").unwrap_or_default();
@@ -72,7 +92,7 @@ pub fn write(rows: &[Row]) -> io::Result<()> {
 }
 
 fn page(rows: &[Row]) -> String {
-    let (processor, table) = (processor(), table(rows));
+    let (processor, table, summary) = (processor(), table(rows), summary(rows));
     format!(
         "# Benchmarks
 
@@ -80,6 +100,9 @@ What each call takes, and what the same work takes elsewhere. `cargo bench --off
 `cargo bench --offline -- --quick` checks the same answers and writes nothing.
 
 ![ns a record against the number of runs](benchmarks.svg)
+
+{summary}
+D is 64 where a call depends on it; the bounds are over all trays and sizes below. Under 1.00 the hand-written rules are faster.
 
 | | |
 |---|---|

@@ -59,11 +59,12 @@ pub fn step(data: &[u8]) -> (&'static str, u32) {
     (call, answer.number)
 }
 
-/// A sound tray and an accepted index of it, each of them damaged or not, or bytes as they come.
-fn draw_pair(script: &mut Script) -> (Vec<u8>, Vec<u8>) {
+/// A sound tray and an accepted index of it, each of them damaged or not, or bytes as they come. Both are blocks of just their length,
+/// so that a memory checker sees every byte read past them.
+fn draw_pair(script: &mut Script) -> (Box<[u8]>, Box<[u8]>) {
     let choice = script.below(16);
     if choice == 15 {
-        return (draw_bytes(script), draw_bytes(script));
+        return (draw_bytes(script).into(), draw_bytes(script).into());
     }
     let mut tray = samples::tray(script, &SHAPES[choice % 4]);
     let index_choice = script.below(8);
@@ -74,7 +75,7 @@ fn draw_pair(script: &mut Script) -> (Vec<u8>, Vec<u8>) {
     if choice >= 12 {
         samples::damage(script, &mut tray);
     }
-    (tray, index)
+    (tray.into(), index.into())
 }
 
 /// Up to 255 bytes as they come.
