@@ -90,3 +90,38 @@ fn keys_in_a_few_runs() {
     let tray = longest(&mut rng, |r, place| place * 24 + r % 24);
     all_calls(&mut rng, &tray, 63, 24 * RECORDS);
 }
+
+/// More than 65,536 segments, one for each key: the segment takes more than 16 bits in cursors and in figures.
+#[test]
+fn segments_past_16_bits() {
+    const MANY: usize = 17;
+    let mut rng = seeded(505);
+    let runs: Vec<Vec<Record>> =
+        (0..MANY).map(|r| (0..RECORDS).map(|place| live(key((place * MANY + r) as u64), &mut rng)).collect()).collect();
+    let tray = tray_of(&runs);
+    let records = MANY * RECORDS;
+    let mut index = naive::cut_index(&tray, MANY, || true);
+    assert_eq!(compare::check_index(&tray, &index), Answer::ok(records as u64));
+
+    // Seek, next and page to both sides of segment 65,536, and to the last.
+    for sought in [65_535, 65_536, 65_537, records - 1] {
+        let stop = compare::seek(&tray, &index, &key(sought as u64));
+        assert_eq!((stop.answer, stop.run, stop.place), (Answer::ok(1), (sought % MANY) as u8, (sought / MANY) as u16));
+        assert_eq!((stop.cursor[0], stop.cursor[1]), ((sought >> 16) as u16, sought as u16));
+        let next = compare::next(&tray, &index, &stop.cursor);
+        assert_eq!(next.answer, Answer::ok(u64::from(sought + 1 < records)));
+        let page = compare::page(&tray, &index, &stop.cursor, 24 * 3);
+        assert_eq!(page.count as usize, 3.min(records - sought));
+        // With the high half left off the cursor stands at another segment, where its places don't fit.
+        let mut halved = stop.cursor;
+        halved[0] ^= 1;
+        let figure = u64::from(halved[0]) * 65_536 + u64::from(halved[1]);
+        assert_eq!(compare::next(&tray, &index, &halved).answer, Answer::refused(11, figure));
+    }
+
+    // A wrong segment and a lost walk past 65,536.
+    let at = common::selectors_at(&index, 66_000);
+    index[at] = MANY as u8;
+    assert_eq!(compare::check_index(&tray, &index), Answer::refused(5, 66_000));
+    assert_eq!(compare::get(&tray, &index, &key(66_000)).answer, Answer::refused(10, 66_000 * 128));
+}
