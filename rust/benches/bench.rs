@@ -419,13 +419,15 @@ fn rows(effort: Effort) -> Vec<Row> {
 fn main() -> ExitCode {
     let quick = std::env::args().any(|word| word == "--quick");
     hand_follows_the_rules();
+    let before = report::Load::now(processor_time());
     let rows = rows(if quick { QUICK } else { FULL });
+    let others = before.others_until(&report::Load::now(processor_time()));
     print!("{}", report::table(&rows));
     if quick {
         println!("bench: every answer is the twin's; times of a quick run mean little, and nothing is written");
         return ExitCode::SUCCESS;
     }
-    match report::write(&rows) {
+    match report::write(&rows, others) {
         Ok(()) => ExitCode::SUCCESS,
         Err(error) => {
             println!("bench: {error}");

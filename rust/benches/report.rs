@@ -2,6 +2,7 @@
 
 use std::fmt::Write;
 use std::path::Path;
+use std::time::Duration;
 use std::{fs, io};
 
 use crate::workload::Workload;
@@ -84,14 +85,39 @@ fn processor() -> String {
     model.map_or("unknown", |(_, name)| name).to_string()
 }
 
+/// What the machine's processors have done so far, in hundredths of a second, and what this thread has of it.
+pub struct Load {
+    all: f64,
+    idle: f64,
+    own: f64,
+}
+
+impl Load {
+    /// The load so far, of which this thread had `own`. Where the system doesn't tell, nothing is known of others.
+    pub fn now(own: Duration) -> Self {
+        let stat = fs::read_to_string("/proc/stat").unwrap_or_default();
+        let line = stat.lines().next().unwrap_or_default();
+        let ticks: Vec<f64> = line.split_whitespace().skip(1).take(8).filter_map(|word| word.parse().ok()).collect();
+        let idle = ticks.iter().skip(3).take(2).sum();
+        Load { all: ticks.iter().sum(), idle, own: own.as_secs_f64() * 100.0 }
+    }
+
+    /// How much of the processors' time other programs took until a later load, in percent.
+    pub fn others_until(&self, later: &Load) -> f64 {
+        let all = later.all - self.all;
+        let others = all - (later.idle - self.idle) - (later.own - self.own);
+        100.0 * others.max(0.0) / all.max(1.0)
+    }
+}
+
 /// Writes the page and the plot.
-pub fn write(rows: &[Row]) -> io::Result<()> {
+pub fn write(rows: &[Row], others: f64) -> io::Result<()> {
     let docs = Path::new(env!("CARGO_MANIFEST_DIR")).join("../docs");
-    fs::write(docs.join("BENCHMARKS.md"), page(rows))?;
+    fs::write(docs.join("BENCHMARKS.md"), page(rows, others))?;
     fs::write(docs.join("benchmarks.svg"), plot(rows))
 }
 
-fn page(rows: &[Row]) -> String {
+fn page(rows: &[Row], others: f64) -> String {
     let (processor, table, summary) = (processor(), table(rows), summary(rows));
     format!(
         "# Benchmarks
@@ -106,7 +132,7 @@ D is 64 where a call depends on it; the bounds are over all trays and sizes belo
 
 | | |
 |---|---|
-| Machine | {processor}; one thread |
+| Machine | {processor}; one thread; other programs took {others:.0} % of the processors' time meanwhile, which makes times longer and ratios less sharp |
 | Build | library: `rt staticlib kanyorith`; Rust: `cargo bench`, opt-level 3, one codegen unit, no processor-specific flags |
 | Input | trays of H runs of 4,096 records, drawn from fixed seeds; each key in 1 to 4 runs, 5 % of the records gone, 200 points a sheet before the gone ones are taken out. Folds into one: H runs of 4,096 / H records |
 | Buffers | outputs are allocated and zeroed once, before the first round, and not cleared between rounds; inputs stay as warm as the caches hold them |
