@@ -36,8 +36,9 @@
  * Order. Where several could be given, a call gives the first in its own order, which stands below with each call. "3/2" is the first wrong
  * record in tray order, 3 before 2 at one record. Records, segments and selectors count from 0.
  *
- * What a refusal leaves. It writes *figure and nothing else: outputs, cursor, run and place stay as they were. One exception: a page that is
- * refused by 10 keeps the records that it has written, and *count says how many. No call touches an output past what it writes.
+ * What a refusal leaves. It writes *figure, and page its *count: outputs, cursor, run and place stay as they were. One exception: a page that is
+ * refused by 10 keeps the records that it has written, and *count says how many; refused by another number it has written none. No call
+ * touches an output past what it writes.
  *
  * Accepted indexes. The quick calls (get, seek, next, page, sheet) test 1, 4 and every place that they follow, not the whole index. Where
  * kanyorith_check_index accepts tray and index, they are never refused by 10, and they give exactly the points of the full merge whose newest
@@ -117,7 +118,8 @@ uint32_t kanyorith_next(const uint8_t *tray, size_t tray_length, const uint8_t *
 uint32_t kanyorith_page(const uint8_t *tray, size_t tray_length, const uint8_t *index, size_t index_length, uint16_t cursor[66], uint8_t *out,
                         size_t out_length, uint64_t *count, uint64_t *figure);
 
-/* Sheet. Writes key and value, 24 bytes a record, of each visible record whose key begins with the prefix, in key order, and answers how many.
+/* Sheet. Writes key and value, 24 bytes a record, of each visible record from the prefix on until the first key past it, and answers how many:
+ * through an accepted index just the points whose key begins with the prefix, in key order.
  * Refusals: 1, 4, 8, 9, 10, 7. It writes nothing unless all of it fits. */
 uint32_t kanyorith_sheet(const uint8_t *tray, size_t tray_length, const uint8_t *index, size_t index_length, const uint8_t *prefix,
                          size_t prefix_length, uint8_t *out, size_t out_length, uint64_t *figure);
