@@ -9,8 +9,10 @@ use tray::RunNo;
 use walk::cursor::Cursor;
 use walk::cursor::load;
 ghost use mathlib.Core.Path.{_≡_};
+ghost use mathlib.Core.Bool.{cond};
 ghost use mathlib.Core.List.{[]};
 ghost use Prim.Native.Nat.{_*_, _≤_, _<_};
+ghost use lib.Dec.{leb, ltb};
 ghost use Rattle.tray.specs.Frame.{Starts};
 ghost use Rattle.walk.specs.Walk.{walkFrom};
 ghost use Rattle.walk.specs.Reads.{sheetVisit};
@@ -29,6 +31,23 @@ fn tallied(stop: Stop, count: usize) -> Counted
     ensures { λ r. ⌜ r .count ≡ count ⌝ }
 {
     Counted { stop, count }
+}
+
+// An unmarked selector is one record, and a marked one none. Which it is cannot be foretold, so that a branch would often go wrong: the key is
+// read and the number added whatever the mark, and the mark is reckoned as a number.
+fn listed(v: u8) -> usize
+    ensures { λ n. ⌜ n ≡ cond (ltb v 64) 1 0 ⌝ }
+    ensures { λ n. ⌜ n ≤ 1 ⌝ }
+{
+    wide_size((4 - v / 64) / 4)
+}
+
+// A key at or above the bound, as a number.
+fn reached(high: u64, key: u64) -> usize
+    ensures { λ n. ⌜ n ≡ cond (leb high key) 1 0 ⌝ }
+    ensures { λ n. ⌜ n ≤ 1 ⌝ }
+{
+    if high <= key { 1 } else { 0 }
 }
 
 // How many unmarked records stand from a cursor on, which is not the end, until the first key at or above a bound.
@@ -68,16 +87,13 @@ pub fn count_from(
                 let p = places[i];
                 let q = p.0;
                 if q < counts[i] {
-                    if v < 64 {
-                        let e = head_of(t, starts, RunNo(v), p);
-                        if high <= e.key {
-                            break 'walk tallied(Stop::More, count);
-                        }
-                        count += 1;
-                        places[i] = Place(q + 1);
-                        s += 1;
-                        continue;
+                    let e = head_of(t, starts, RunNo(r), p);
+                    let key = e.key;
+                    let one = listed(v);
+                    if one + reached(high, key) == 2 {
+                        break 'walk tallied(Stop::More, count);
                     }
+                    count += one;
                     places[i] = Place(q + 1);
                     s += 1;
                     continue;

@@ -5,11 +5,10 @@ use Prim.Native.Nat.{_-_}
 use lib.ListN.{length, length-map}
 use mathlib.Core.List.{[]}
 use Rattle.walk.specs.Code.{spotOf}
-use Rattle.walk.specs.Code.Seek.{stays-run, stays-place}
 use Rattle.walk.specs.Code.Turns.{within, selector-is, here-end}
 use Rattle.listing.specs.Steps.{onward-from, here-no-run, here-no-place, here-stay}
 use Rattle.counting.specs.Count.{countedAs}
-use Rattle.counting.specs.Count.Code.{tallyVisit, tally-is, visit-bound, Counting, counting-first, counting-inner, counting-back, counting-most, counting-enter, counting-pass, counting-marked, counting-below}
+use Rattle.counting.specs.Count.Code.{tallyVisit, tally-is, run-there, place-there, visit-over, Counting, counting-first, counting-inner, counting-back, counting-most, counting-enter, counting-pass, counting-on}
 use native.Mathlib.Omega.{arith}
 use borrow.Author.Needs.{needs}
 use Rattle.counting.proofs.count_from.Statement.{statement}
@@ -85,16 +84,25 @@ shared-slice-read-if3 : tie.Need-shared-slice-read-if3 Inv-loop μ-loop Inv-walk
 shared-slice-read-if3 c = omega (arith, c .before .before .before .before .before .before .before .before .before .before .before .before .before .before .before .before .before .before .pre .0 .room, c .before .before .before .before .before .before .before .before .before .before .before .before .before .before .before .before .before .before .pre .0 .few, c .before .before .wide-size4 .ensures)
 
 head-of-requires : tie.Need-head-of-requires Inv-loop μ-loop Inv-walk μ-walk
-head-of-requires c κs = (c .before .before .before .before .before .before .before .before .before .before .before .before .before .before .before .before .before .before .before .before .pre .1 .0, (stays-run (c .before .before .before .before .before .before .before .before .before .before .before .before .before .before .before .before .before .before .before .before .pre .0) _ (c .before .before .before .before .before .before .before .before .before .loop .places) (c .before .before .before .before .before .if2 .taken) (c .before .before .before .before .wide-size4 .ensures) (c .if4 .taken), stays-place (c .before .before .before .before .before .before .before .before .before .before .before .before .before .before .before .before .before .before .before .before .pre .0) _ (c .before .before .before .before .before .before .before .before .before .loop .places) (c .before .before .before .before .before .if2 .taken) (c .before .before .before .before .wide-size4 .ensures) (c .before .if3 .taken) (c .if4 .taken)))
+head-of-requires c κs = (c .before .before .before .before .before .before .before .before .before .before .before .before .before .before .before .before .before .before .before .pre .1 .0, (run-there (c .before .before .before .before .before .before .before .before .before .before .before .before .before .before .before .before .before .before .before .pre .0) _ (c .before .before .before .before .before .before .before .before .loop .places) (c .before .before .before .before .if2 .taken) (c .before .before .before .wide-size4 .ensures), place-there (c .before .before .before .before .before .before .before .before .before .before .before .before .before .before .before .before .before .before .before .pre .0) _ (c .before .before .before .before .before .before .before .before .loop .places) (c .before .before .before .before .if2 .taken) (c .before .before .before .wide-size4 .ensures) (c .if3 .taken)))
+
+listed-requires : tie.Need-listed-requires Inv-loop μ-loop Inv-walk μ-walk
+listed-requires c κs = search needs
+
+reached-requires : tie.Need-reached-requires Inv-loop μ-loop Inv-walk μ-walk
+reached-requires c κs = search needs
+
+add-if4 : tie.Need-add-if4 Inv-loop μ-loop Inv-walk μ-walk
+add-if4 c = omega (arith, c .before .listed .ensures .1, c .reached .ensures .1)
 
 tallied-requires : tie.Need-tallied-requires Inv-loop μ-loop Inv-walk μ-walk
 tallied-requires c κs = search needs
 
 add-count : tie.Need-add-count Inv-loop μ-loop Inv-walk μ-walk
-add-count c = omega (arith, c .before .before .before .before .before .before .before .before .before .before .before .before .loop .inv .few, c .before .before .before .before .before .before .before .before .before .before .before .before .loop .inv .here .on .inside)
+add-count c = omega (arith, c .before .before .before .before .before .before .before .before .before .before .before .before .loop .inv .few, c .before .before .before .before .before .before .before .before .before .before .before .before .loop .inv .here .on .inside, c .before .before .listed .ensures .1)
 
-add-t43 : tie.Need-add-t43 Inv-loop μ-loop Inv-walk μ-walk
-add-t43 c = omega (arith, c .before .before .before .before .before .shared-slice-known6 .given (c .before .before .before .before .before .before .before .wide-size4 .result), c .before .before .before .before .if3 .taken)
+add-t46 : tie.Need-add-t46 Inv-loop μ-loop Inv-walk μ-walk
+add-t46 c = omega (arith, c .before .before .before .before .before .shared-slice-known6 .given (c .before .before .before .before .before .before .before .wide-size4 .result), c .before .before .before .before .if3 .taken)
 
 mul-places : tie.Need-mul-places Inv-loop μ-loop Inv-walk μ-walk
 mul-places c = omega arith
@@ -109,34 +117,16 @@ loop-less-2 : tie.Need-loop-less-2 Inv-loop μ-loop Inv-walk μ-walk
 loop-less-2 c = omega arith
 
 loop-again-2 : tie.Need-loop-again-2 Inv-loop μ-loop Inv-walk μ-walk
-loop-again-2 c = counting-below (c .before .before .before .before .before .before .before .before .before .before .before .before .loop .inv) (c .before .before .before .before .before .before .before .before .before .before .before .before .before .before .before .before .before .before .before .before .before .before .before .pre .0) (omega (arith, c .before .before .before .before .before .before .before .before .before .before .before .before .before .before .before .before .before .before .wide-size .ensures, c .before .before .before .before .before .before .before .before .before .before .before .loop-test .taken)) (selector-is (c .before .before .before .before .before .before .before .before .before .before .before .before .before .before .before .before .before .before .before .before .before .before .before .pre .0) _ _ (c .before .before .before .before .before .before .before .before .before .before .before .before .before .before .segment-at .ensures) (omega (arith, c .before .before .before .before .before .before .before .before .before .before .before .before .before .wide-size3 .ensures)) refl) (c .before .before .before .before .before .before .before .before .before .if1 .left) (c .before .before .before .before .before .before .before .before .if2 .taken) (c .before .before .before .before .before .before .before .wide-size4 .ensures) (c .before .before .before .before .if3 .taken) (c .before .before .before .if4 .taken) (c .before .before .head-of .ensures .key) (c .if5 .left)
+loop-again-2 c = counting-on (c .before .before .before .before .before .before .before .before .before .before .before .before .loop .inv) (c .before .before .before .before .before .before .before .before .before .before .before .before .before .before .before .before .before .before .before .before .before .before .before .pre .0) (omega (arith, c .before .before .before .before .before .before .before .before .before .before .before .before .before .before .before .before .before .before .wide-size .ensures, c .before .before .before .before .before .before .before .before .before .before .before .loop-test .taken)) (selector-is (c .before .before .before .before .before .before .before .before .before .before .before .before .before .before .before .before .before .before .before .before .before .before .before .pre .0) _ _ (c .before .before .before .before .before .before .before .before .before .before .before .before .before .before .segment-at .ensures) (omega (arith, c .before .before .before .before .before .before .before .before .before .before .before .before .before .wide-size3 .ensures)) refl) (c .before .before .before .before .before .before .before .before .before .if1 .left) (c .before .before .before .before .before .before .before .before .if2 .taken) (c .before .before .before .before .before .before .before .wide-size4 .ensures) (c .before .before .before .before .if3 .taken) (c .before .before .before .head-of .ensures .key) (c .before .before .listed .ensures .0) (c .before .before .listed .ensures .1) (c .before .reached .ensures .0) (c .if4 .left)
 
-add-t48 : tie.Need-add-t48 Inv-loop μ-loop Inv-walk μ-walk
-add-t48 c = omega (arith, c .before .before .shared-slice-known6 .given (c .before .before .before .before .wide-size4 .result), c .before .if3 .taken)
-
-mul-places-2 : tie.Need-mul-places-2 Inv-loop μ-loop Inv-walk μ-walk
-mul-places-2 c = omega arith
-
-array-set-from-places-2 : tie.Need-array-set-from-places-2 Inv-loop μ-loop Inv-walk μ-walk
-array-set-from-places-2 c = omega (arith, c .before .before .before .before .before .before .before .before .before .loop .inv .here .room, c .before .before .before .before .before .before .before .before .before .before .before .before .before .before .before .before .before .before .before .before .pre .0 .few, c .before .before .before .before .wide-size4 .ensures)
-
-add-s-3 : tie.Need-add-s-3 Inv-loop μ-loop Inv-walk μ-walk
-add-s-3 c = omega arith
-
-loop-less-3 : tie.Need-loop-less-3 Inv-loop μ-loop Inv-walk μ-walk
-loop-less-3 c = omega arith
-
-loop-again-3 : tie.Need-loop-again-3 Inv-loop μ-loop Inv-walk μ-walk
-loop-again-3 c = counting-marked (c .before .before .before .before .before .before .before .before .before .loop .inv) (c .before .before .before .before .before .before .before .before .before .before .before .before .before .before .before .before .before .before .before .before .pre .0) (omega (arith, c .before .before .before .before .before .before .before .before .before .before .before .before .before .before .before .wide-size .ensures, c .before .before .before .before .before .before .before .before .loop-test .taken)) (selector-is (c .before .before .before .before .before .before .before .before .before .before .before .before .before .before .before .before .before .before .before .before .pre .0) _ _ (c .before .before .before .before .before .before .before .before .before .before .before .segment-at .ensures) (omega (arith, c .before .before .before .before .before .before .before .before .before .before .wide-size3 .ensures)) refl) (c .before .before .before .before .before .before .if1 .left) (c .before .before .before .before .before .if2 .taken) (c .before .before .before .before .wide-size4 .ensures) (c .before .if3 .taken) (c .if4 .left)
-
-cast-t53 : tie.Need-cast-t53 Inv-loop μ-loop Inv-walk μ-walk
-cast-t53 c = omega (arith, c .before .before .before .before .before .before .before .loop-test .taken, c .before .before .before .before .before .before .before .before .before .before .before .before .before .before .wide-size .ensures)
+cast-t50 : tie.Need-cast-t50 Inv-loop μ-loop Inv-walk μ-walk
+cast-t50 c = omega (arith, c .before .before .before .before .before .before .before .loop-test .taken, c .before .before .before .before .before .before .before .before .before .before .before .before .before .before .wide-size .ensures)
 
 tallied-requires-2 : tie.Need-tallied-requires-2 Inv-loop μ-loop Inv-walk μ-walk
 tallied-requires-2 c κs = search needs
 
-cast-t55 : tie.Need-cast-t55 Inv-loop μ-loop Inv-walk μ-walk
-cast-t55 c = omega (arith, c .before .before .before .loop-test .taken, c .before .before .before .before .before .before .before .before .before .before .wide-size .ensures)
+cast-t52 : tie.Need-cast-t52 Inv-loop μ-loop Inv-walk μ-walk
+cast-t52 c = omega (arith, c .before .before .before .loop-test .taken, c .before .before .before .before .before .before .before .before .before .before .wide-size .ensures)
 
 tallied-requires-3 : tie.Need-tallied-requires-3 Inv-loop μ-loop Inv-walk μ-walk
 tallied-requires-3 c κs = search needs
@@ -151,7 +141,7 @@ segment-at-requires-2 : tie.Need-segment-at-requires-2 Inv-loop μ-loop Inv-walk
 segment-at-requires-2 c κs = search needs
 
 load-requires : tie.Need-load-requires Inv-loop μ-loop Inv-walk μ-walk
-load-requires c κs = (omega (arith, within (c .before .before .before .before .before .before .before .before .before .before .before .before .before .before .pre .0) (c .before .if6 .left) (c .segment-at2 .ensures)), c .before .before .before .before .before .before .before .before .before .before .before .before .before .before .pre .0 .few)
+load-requires c κs = (omega (arith, within (c .before .before .before .before .before .before .before .before .before .before .before .before .before .before .pre .0) (c .before .if5 .left) (c .segment-at2 .ensures)), c .before .before .before .before .before .before .before .before .before .before .before .before .before .before .pre .0 .few)
 
 walk-less : tie.Need-walk-less Inv-loop μ-loop Inv-walk μ-walk
 walk-less c = omega arith
@@ -161,7 +151,7 @@ walk-again c = counting-enter (counting-back (c .before .before .before .before 
 
 returns : tie.Need-returns Inv-loop μ-loop Inv-walk μ-walk
 unfolding countedAs
-returns c = (c .tallied .ensures .0 ∙ here-stay (c .before .before .before .before .before .before .before .before .before .before .before .before .before .before .before .before .before .before .before .before .before .before .before .before .pre .0) ((counting-back (c .before .before .before .before .before .before .before .before .before .before .before .before .before .before .before .before .walk .inv) (c .before .before .before .before .before .before .before .before .before .before .before .before .before .loop .inv)) .here) (omega (arith, c .before .before .before .before .before .before .before .before .before .before .before .before .before .before .before .before .before .before .before .wide-size .ensures, c .before .before .before .before .before .before .before .before .before .before .before .before .loop-test .taken)) (selector-is (c .before .before .before .before .before .before .before .before .before .before .before .before .before .before .before .before .before .before .before .before .before .before .before .before .pre .0) _ _ (c .before .before .before .before .before .before .before .before .before .before .before .before .before .before .before .segment-at .ensures) (omega (arith, c .before .before .before .before .before .before .before .before .before .before .before .before .before .before .wide-size3 .ensures)) refl) (c .before .before .before .before .before .before .before .before .before .before .if1 .left) (c .before .before .before .before .before .before .before .before .before .if2 .taken) (c .before .before .before .before .before .before .before .before .wide-size4 .ensures) (c .before .before .before .before .before .if3 .taken) (visit-bound (c .before .before .before .before .before .before .before .before .before .before .before .before .before .before .before .before .before .before .before .before .before .before .before .before .pre .0) _ (c .before .before .before .before .before .before .before .before .before .before .before .before .before .loop .places) (c .before .before .before .before .before .before .before .before .before .if2 .taken) (c .before .before .before .before .before .before .before .before .wide-size4 .ensures) _ _ _ _ (c .before .before .before .before .if4 .taken) (c .before .before .before .head-of .ensures .key) (c .before .if5 .taken)) ∙ onward-from (c .before .before .before .before .before .before .before .before .before .before .before .before .before .before .before .before .before .before .before .before .before .before .before .before .pre .0) (tallyVisit _ _) (c .before .before .before .before .before .before .before .before .before .before .before .before .before .before .before .before .before .before .before .before .before .before .before .before .args .from) 0 (c .before .before .before .before .before .before .before .before .before .before .before .before .before .before .before .before .before .before .wide-size2 .ensures) (c .before .before .before .before .before .before .before .before .before .before .before .before .before .before .before .before .before .before .before .before .before .before .before .before .pre .1 .1 .0) ∙ tally-is _ _ _ (spotOf (c .before .before .before .before .before .before .before .before .before .before .before .before .before .before .before .before .before .before .before .before .before .before .before .before .args .from)) [], counting-most (c .before .before .before .before .before .before .before .before .before .before .before .before .before .loop .inv) (omega arith) (c .tallied .ensures .1))
+returns c = (c .tallied .ensures .0 ∙ here-stay (c .before .before .before .before .before .before .before .before .before .before .before .before .before .before .before .before .before .before .before .before .before .before .before .before .pre .0) ((counting-back (c .before .before .before .before .before .before .before .before .before .before .before .before .before .before .before .before .walk .inv) (c .before .before .before .before .before .before .before .before .before .before .before .before .before .loop .inv)) .here) (omega (arith, c .before .before .before .before .before .before .before .before .before .before .before .before .before .before .before .before .before .before .before .wide-size .ensures, c .before .before .before .before .before .before .before .before .before .before .before .before .loop-test .taken)) (selector-is (c .before .before .before .before .before .before .before .before .before .before .before .before .before .before .before .before .before .before .before .before .before .before .before .before .pre .0) _ _ (c .before .before .before .before .before .before .before .before .before .before .before .before .before .before .before .segment-at .ensures) (omega (arith, c .before .before .before .before .before .before .before .before .before .before .before .before .before .before .wide-size3 .ensures)) refl) (c .before .before .before .before .before .before .before .before .before .before .if1 .left) (c .before .before .before .before .before .before .before .before .before .if2 .taken) (c .before .before .before .before .before .before .before .before .wide-size4 .ensures) (c .before .before .before .before .before .if3 .taken) (visit-over (c .before .before .before .before .before .before .before .before .before .before .before .before .before .before .before .before .before .before .before .before .before .before .before .before .pre .0) _ (c .before .before .before .before .before .before .before .before .before .before .before .before .before .loop .places) (c .before .before .before .before .before .before .before .before .before .if2 .taken) (c .before .before .before .before .before .before .before .before .wide-size4 .ensures) _ _ _ _ (c .before .before .before .before .head-of .ensures .key) (c .before .before .before .listed .ensures .0) (c .before .before .before .listed .ensures .1) (c .before .before .reached .ensures .0) (c .before .before .reached .ensures .1) (c .before .if4 .taken)) ∙ onward-from (c .before .before .before .before .before .before .before .before .before .before .before .before .before .before .before .before .before .before .before .before .before .before .before .before .pre .0) (tallyVisit _ _) (c .before .before .before .before .before .before .before .before .before .before .before .before .before .before .before .before .before .before .before .before .before .before .before .before .args .from) 0 (c .before .before .before .before .before .before .before .before .before .before .before .before .before .before .before .before .before .before .wide-size2 .ensures) (c .before .before .before .before .before .before .before .before .before .before .before .before .before .before .before .before .before .before .before .before .before .before .before .before .pre .1 .1 .0) ∙ tally-is _ _ _ (spotOf (c .before .before .before .before .before .before .before .before .before .before .before .before .before .before .before .before .before .before .before .before .before .before .before .before .args .from)) [], counting-most (c .before .before .before .before .before .before .before .before .before .before .before .before .before .loop .inv) (omega arith) (c .tallied .ensures .1))
 
 returns-2 : tie.Need-returns-2 Inv-loop μ-loop Inv-walk μ-walk
 unfolding countedAs
@@ -203,23 +193,20 @@ count-from-spec =
     mul-if3
     shared-slice-read-if3
     head-of-requires
+    listed-requires
+    reached-requires
+    add-if4
     tallied-requires
     add-count
-    add-t43
+    add-t46
     mul-places
     array-set-from-places
     add-s-2
     loop-less-2
     loop-again-2
-    add-t48
-    mul-places-2
-    array-set-from-places-2
-    add-s-3
-    loop-less-3
-    loop-again-3
-    cast-t53
+    cast-t50
     tallied-requires-2
-    cast-t55
+    cast-t52
     tallied-requires-3
     add-g
     tallied-requires-4

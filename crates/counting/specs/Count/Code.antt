@@ -1,29 +1,31 @@
 -- What the code of the count needs of the definitions: it carries the number of records, not the records.
 --     tallyVisit, tally-is                                what sheet does, in numbers
 --     counted-stayed, counted-ended, counted-lost         what a count says of the records
---     visit-bound, visit-below, visit-marked              at a selector
+--     listed-is, reached-high, reached-low                a selector's mark, and the bound, as numbers
+--     run-there, place-there, visit-over, visit-on        at a selector
 --     Counting                                            both loops of the count
---     counting-first, counting-most, counting-inner, counting-back, counting-enter, counting-pass, counting-below, counting-marked
+--     counting-first, counting-most, counting-inner, counting-back, counting-enter, counting-pass, counting-on
 -- Assumes nothing.
-use mathlib.Core.Path.{_≡_, refl, sym, ap, ap₂, _∙_}
-use Prim.Native.Nat.{ℕ, _+_, _*_, _%_, _≤_, _<_}
+use mathlib.Core.Path.{_≡_, refl, sym, ap, _∙_}
+use Prim.Native.Nat.{ℕ, _+_, _-_, _*_, _/_, _%_, _≤_, _<_}
 use native.Mathlib.Omega.{arith}
+use native.Mathlib.Nat.{add-zero}
 use mathlib.Core.Bool.{cond}
 use mathlib.Core.List.{List, [], _∷_}
 use lib.ListN.{length, getD, set, length-append}
-use lib.Dec.{leb}
-use borrow.Author.Tests.{lt-ltb, le-ltb, le-leb, lt-leb}
+use lib.Dec.{leb, ltb}
+use borrow.Author.Tests.{ltb-true, ltb-false, le-leb, lt-leb}
 use Rattle.theory.specs.Records.{Record}
 use Rattle.theory.specs.Tests.{cases, never}
 use Rattle.tray.specs.declared.Place.{Place}
-use Rattle.tray.specs.Frame.{runCount, runBytes}
+use Rattle.tray.specs.Frame.{runCount, countOf, runBytes}
 use Rattle.tray.specs.Run.{recordAt}
 use Rattle.index.specs.Layout.{segmentAt}
 use Rattle.walk.specs.Walk.{Spot, Visit, stay, go, Walked, stayed, ended, lost, selectorAt, walkFrom}
 use Rattle.walk.specs.Reads.{unmarked, recordBy, sheetVisit}
 use Rattle.walk.specs.Code.{placed, numbers, Walking}
 use Rattle.walk.specs.Code.Load.{loadedFrom}
-use Rattle.walk.specs.Code.Turns.{Here, place-is, here-enter}
+use Rattle.walk.specs.Code.Turns.{Here, place-is, count-is, here-enter}
 use Rattle.listing.specs.Steps.{spotAt, onward, here-first, here-inner, here-back, here-pass, here-go}
 use Rattle.listing.specs.Steps.Maps.{mapVisit, mapWalked, walk-map}
 use Rattle.counting.specs.Count.{lengths}
@@ -71,30 +73,53 @@ pub tally-is : (t x : List ℕ) (high : ℕ) (c : Spot) (es : List Record) → w
 tally-is t x high c es =
     walk-map t x length length (sheetVisit t high) (tallyVisit t high) (tally-agrees t high) c es ∙ lengths-is (walkFrom t x (sheetVisit t high) c es)
 
-module _ {t x : List ℕ} {h d n : ℕ} {counts : List ℕ} (w : Walking t x h d n counts) (v : ℕ) {i : ℕ} (places : List Place) (below : v % 64 < h) (e : i ≡ v % 64) (high g s count : ℕ) where
-  -- an unmarked selector is its run
-  key-is : {key : ℕ} → v < 64 → key ≡ recordAt (runBytes t v) (getD places i (placed 0) .0) .key → recordBy t v (spotAt g s places) .key ≡ key
-  unfolding recordBy
-  key-is l k =
-      let z : v % 64 ≡ v = omega arith in
-      ap₂ (λ (r p : ℕ). recordAt (runBytes t r) p .key) z (sym (place-is w v places below e)) ∙ sym k
+-- a selector without a mark is one record, and one with a mark none
+pub listed-is : (v m : ℕ) → v < 256 → m ≡ (4 - v / 64) / 4 → (m ≡ cond (ltb v 64) 1 0) × (m ≤ 1)
+listed-is v m l e = (
+  cases (ltb v 64)
+      (λ y. let k = ltb-true v 64 y in rw y (let a : v / 64 ≡ 0 = omega arith in let b : (4 - v / 64) / 4 ≡ 1 = omega arith in e ∙ b))
+      (λ n. let k = ltb-false v 64 n in rw n (let b : (4 - v / 64) / 4 ≡ 0 = omega arith in e ∙ b)),
+  omega arith,
+)
 
-  -- the count stays at the bound,
-  pub visit-bound : {key : ℕ} → v < 64 → key ≡ recordAt (runBytes t v) (getD places i (placed 0) .0) .key → high ≤ key
-      → tallyVisit t high v (spotAt g s places) count ≡ stay count
-  unfolding tallyVisit unmarked
-  visit-bound {key} l k b = rw (lt-ltb v 64 l, key-is l k, le-leb high key b)
+-- a key at or above the bound
+pub reached-high : (high key : ℕ) → high ≤ key → (_≡_ {A = ℕ} 1 (cond (leb high key) 1 0)) × (_≤_ 1 1)
+reached-high high key l = (rw (le-leb high key l), omega arith)
 
-  -- takes what lies below it,
-  pub visit-below : {key : ℕ} → v < 64 → key ≡ recordAt (runBytes t v) (getD places i (placed 0) .0) .key → key < high
-      → tallyVisit t high v (spotAt g s places) count ≡ go (count + 1)
-  unfolding tallyVisit unmarked
-  visit-below {key} l k b = rw (lt-ltb v 64 l, key-is l k, lt-leb high key b)
+pub reached-low : (high key : ℕ) → key < high → (_≡_ {A = ℕ} 0 (cond (leb high key) 1 0)) × (_≤_ 0 1)
+reached-low high key l = (rw (lt-leb high key l), omega arith)
 
-  -- and passes what is marked
-  pub visit-marked : 64 ≤ v → tallyVisit t high v (spotAt g s places) count ≡ go count
-  unfolding tallyVisit unmarked
-  visit-marked l = rw (le-ltb v 64 l)
+module _ {t x : List ℕ} {h d n : ℕ} {counts : List ℕ} (w : Walking t x h d n counts) (v : ℕ) {i : ℕ} (places : List Place) (below : v % 64 < h) (e : i ≡ v % 64) where
+  -- a selector's run is one of the tray's,
+  pub run-there : v % 64 < runCount t
+  run-there = let runs = w .runs in omega arith
+
+  -- and its place is in it
+  pub place-there : getD places i (placed 0) .0 < getD counts i 0 → getD places i (placed 0) .0 < countOf t (v % 64)
+  place-there l = let b = count-is w v places below e in omega arith
+
+  module _ (high g s count : ℕ) {key : ℕ} (k : key ≡ recordAt (runBytes t (v % 64)) (getD places i (placed 0) .0) .key) where
+    key-is : recordBy t v (spotAt g s places) .key ≡ key
+    unfolding recordBy
+    key-is = ap (λ (p : ℕ). recordAt (runBytes t (v % 64)) p .key) (sym (place-is w v places below e)) ∙ sym k
+
+    -- the count stays at the bound,
+    pub visit-over : {m b : ℕ} → m ≡ cond (ltb v 64) 1 0 → m ≤ 1 → b ≡ cond (leb high key) 1 0 → b ≤ 1 → m + b ≡ 2 → tallyVisit t high v (spotAt g s places) count ≡ stay count
+    unfolding tallyVisit unmarked
+    visit-over {m} {b} one m1 two b1 both =
+        cases (ltb v 64)
+        (λ y. cases (leb high key) (λ z. rw (y, key-is, z)) (λ n. let o : b ≡ 0 = rw n at two in absurd (omega arith)))
+        (λ n. let o : m ≡ 0 = rw n at one in absurd (omega arith))
+
+    -- and takes or passes what else there is
+    pub visit-on : {m b : ℕ} → m ≡ cond (ltb v 64) 1 0 → b ≡ cond (leb high key) 1 0 → (m + b ≡ 2 → ⊥) → tallyVisit t high v (spotAt g s places) count ≡ go (count + m)
+    unfolding tallyVisit unmarked
+    visit-on {m} {b} one two off =
+        cases (ltb v 64)
+        (λ y.
+        let o : m ≡ 1 = rw y at one in
+        cases (leb high key) (λ z. let q : b ≡ 1 = rw z at two in absurd (off (omega arith))) (λ n. rw (y, key-is, n, o)))
+        (λ n. let o : m ≡ 0 = rw n at one in rw (n, o, add-zero))
 
 -- both loops of the count: from here on it answers for the count from where the loop began; at most one record a selector was counted
 pub record Counting (t x : List ℕ) (high d n g₀ s₀ : ℕ) (places₀ : List Place) (count₀ g s : ℕ) (places : List Place) (count : ℕ) : Type 0 where
@@ -129,13 +154,9 @@ module _ {t x : List ℕ} {high d n g₀ s₀ : ℕ} {places₀ : List Place} {c
       counting-pass e = let f = i .few in record { here = here-pass w (i .here) l read e; few = omega arith }
 
       module _ (real : v ≡ 63 → ⊥) {k : ℕ} (below : v % 64 < h) (e : k ≡ v % 64) (there : getD places k (placed 0) .0 < getD counts k 0) where
-        pub counting-marked : 64 ≤ v → Counting t x high d n g₀ s₀ places₀ count₀ g (s + 1) (set places k (placed (getD places k (placed 0) .0 + 1))) count
-        counting-marked a =
+        pub counting-on : {key m b : ℕ} → key ≡ recordAt (runBytes t (v % 64)) (getD places k (placed 0) .0) .key → m ≡ cond (ltb v 64) 1 0 → m ≤ 1
+            → b ≡ cond (leb high key) 1 0 → (m + b ≡ 2 → ⊥)
+            → Counting t x high d n g₀ s₀ places₀ count₀ g (s + 1) (set places k (placed (getD places k (placed 0) .0 + 1))) (count + m)
+        counting-on a one most two off =
             let f = i .few in
-            record { here = here-go w (i .here) l read real below e there (visit-marked w v places below e high g s count a); few = omega arith }
-
-        pub counting-below : {key : ℕ} → v < 64 → key ≡ recordAt (runBytes t v) (getD places k (placed 0) .0) .key → key < high
-            → Counting t x high d n g₀ s₀ places₀ count₀ g (s + 1) (set places k (placed (getD places k (placed 0) .0 + 1))) (count + 1)
-        counting-below a b j =
-            let f = i .few in
-            record { here = here-go w (i .here) l read real below e there (visit-below w v places below e high g s count a b j); few = omega arith }
+            record { here = here-go w (i .here) l read real below e there (visit-on w v places below e high g s count a one two off); few = omega arith }
