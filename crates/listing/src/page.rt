@@ -9,16 +9,18 @@ use tray::RunNo;
 use tray::frame::size16;
 use walk::cursor::Cursor;
 use walk::cursor::load;
+ghost use mathlib.Core.Bool.{cond};
 ghost use mathlib.Core.Path.{_≡_};
 ghost use Prim.Native.Nat.{_+_, _*_, _≤_, _<_};
-ghost use lib.ListN.{length};
+ghost use lib.ListN.{length, take};
 ghost use Rattle.number.specs.Big.{put};
 ghost use Rattle.tray.specs.Frame.{runCount, countOf, runBytes, Starts};
 ghost use Rattle.tray.specs.Run.{recordAt};
 ghost use Rattle.walk.specs.Walk.{stayed, ended, lost, walkFrom};
-ghost use Rattle.walk.specs.Reads.{listedBytes, pageVisit};
+ghost use Rattle.walk.specs.Reads.{listedBytes, pageVisit, unmarked};
 ghost use Rattle.walk.specs.Code.{Walking, spotOf};
 ghost use Rattle.listing.specs.Page.{soFar, begun, pagedOf, Says};
+ghost use Rattle.listing.specs.Gather.{GatheredFrom, Within, putAll};
 ghost use Rattle.listing.specs.Steps.{spotAt};
 
 // How a page ends: at a record that is not written, at the end, or lost at a selector of a segment.
@@ -61,6 +63,85 @@ fn write_point(t: &[u8], starts: &[usize], r: RunNo, p: Place, out: &mut [u8], a
     let a = starts[i];
     let e = starts[i + 1];
     write_from(&t[a..e], p, out, at);
+}
+
+// A selector with neither mark as 1, any other as 0: reckoned, since the marks cannot be foretold and so are not branched on.
+fn clear(v: u8) -> usize
+    ensures { λ r. ⌜ r ≡ cond (unmarked v) 1 0 ⌝ }
+{
+    (319 - wide_size(v)) / 256
+}
+
+// How many records were gathered, and the selector where the walk of the segment stopped.
+struct Gathered {
+    count: usize,
+    stop: usize,
+}
+
+// The unmarked records of segment g from a selector on, to its end or to where the walk is lost: where each stands in the tray.
+fn gather(
+    t: &[u8],
+    x: &[u8],
+    h: u8,
+    d: u8,
+    n: u32,
+    counts: &[u16],
+    starts: &[usize],
+    g: u32,
+    from: usize,
+    at: [Place; 63],
+    ats: &mut [usize],
+) -> Gathered
+    requires { ⌜ Walking (now t) (now x) h d n (now counts) ⌝ }
+    requires { ⌜ Starts (now t) (now starts) ⌝ }
+    requires { ⌜ (g < n) × (from ≤ d) × (length at ≡ 63) × (d ≤ from + length (now ats)) ⌝ }
+    ensures { λ r. ⌜ GatheredFrom (now (t .entry)) (now (x .entry)) d n g from at (r .count) (r .stop) (now (ats .exit)) ⌝ }
+{
+    let first = segment_at(SegmentNo(g), h, d) + 8 + 2 * wide_size(h);
+    let size = wide_size(d);
+    let mut places = at;
+    let mut k: usize = 0;
+    let mut s = from;
+    while s < size {
+        let v = x[first + s];
+        if v == 63 {
+            s += 1;
+            continue;
+        }
+        let r = v % 64;
+        if r < h {
+            let i = wide_size(r);
+            let p = places[i];
+            let q = p.0;
+            if q < counts[i] {
+                ats[k] = starts[i] + 25 * size16(q);
+                k += clear(v);
+                places[i] = Place(q + 1);
+                s += 1;
+                continue;
+            }
+            return Gathered { count: k, stop: s };
+        }
+        return Gathered { count: k, stop: s };
+    }
+    Gathered {
+        count: k,
+        stop: size,
+    }
+}
+
+// The gathered records, written behind the ones that are: each is handed on as its own stretch of the tray.
+fn put_all(t: &[u8], ats: &[usize], k: usize, count: usize, out: &mut [u8])
+    requires { ⌜ Within (now t) k (now ats) ⌝ }
+    requires { ⌜ (k ≤ length (now ats)) × (24 * (count + k) ≤ length (now out)) ⌝ }
+    ensures { λ _. ⌜ now (out .exit) ≡ putAll (now (t .entry)) (take k (now (ats .entry))) count (now (out .entry)) ⌝ }
+{
+    let mut i: usize = 0;
+    while i < k {
+        let a = ats[i];
+        write_from(&t[a..a + 25], Place(0), out, 24 * (count + i));
+        i += 1;
+    }
 }
 
 // The page stays at a record that is not written.
@@ -115,8 +196,9 @@ fn page_end(count: usize, n: u32) -> Paged
     }
 }
 
-// The page from a cursor that is not the end. The selector is carried at the width of a place in the index: at its own the loop is slower.
-pub fn page_from(
+// The page from a cursor that is not the end, record by record, where some are written already. The selector is carried at the width of a
+// place in the index: at its own the loop is slower.
+fn page_on(
     t: &[u8],
     x: &[u8],
     h: u8,
@@ -125,15 +207,16 @@ pub fn page_from(
     counts: &[u16],
     starts: &[usize],
     from: Cursor,
+    wrote: usize,
     out: &mut [u8],
 ) -> Paged
     requires { ⌜ Walking (now t) (now x) h d n (now counts) ⌝ }
     requires { ⌜ Starts (now t) (now starts) ⌝ }
     requires { ⌜ (from .segment .0 < n) × (from .selector ≤ d) ⌝ }
-    ensures { λ r. ⌜ pagedOf r (now (out .exit)) ≡ walkFrom (now (t .entry)) (now (x .entry)) (pageVisit (now (t .entry))) (spotOf from) (begun (now (out .entry))) ⌝ }
+    ensures { λ r. ⌜ pagedOf r (now (out .exit)) ≡ walkFrom (now (t .entry)) (now (x .entry)) (pageVisit (now (t .entry))) (spotOf from) (soFar wrote (now (out .entry))) ⌝ }
 {
     let slots = out.len() / 24;
-    let mut count: usize = 0;
+    let mut count = wrote;
     let mut g = from.segment.0;
     let size = wide_size(d);
     let mut s = wide_size(from.selector);
@@ -177,4 +260,82 @@ pub fn page_from(
         places = load(x, segment_at(SegmentNo(g), h, d), h);
         s = 0;
     }
+}
+
+// The page from a cursor on, a segment at a time: as long as there is room for a record a selector, a segment's records are gathered first and
+// then written; from there on they are written one by one.
+fn page_segments(
+    t: &[u8],
+    x: &[u8],
+    h: u8,
+    d: u8,
+    n: u32,
+    counts: &[u16],
+    starts: &[usize],
+    from: Cursor,
+    out: &mut [u8],
+) -> Paged
+    requires { ⌜ Walking (now t) (now x) h d n (now counts) ⌝ }
+    requires { ⌜ Starts (now t) (now starts) ⌝ }
+    requires { ⌜ (from .segment .0 < n) × (from .selector ≤ d) × (d ≤ 128) ⌝ }
+    ensures { λ r. ⌜ pagedOf r (now (out .exit)) ≡ walkFrom (now (t .entry)) (now (x .entry)) (pageVisit (now (t .entry))) (spotOf from) (soFar 0 (now (out .entry))) ⌝ }
+{
+    let room = out.len() / 24;
+    let size = wide_size(d);
+    let mut ats: [usize; 128] = [0; 128];
+    let mut count: usize = 0;
+    let mut g = from.segment.0;
+    let mut s = from.selector;
+    let mut places = from.places;
+    loop {
+        let at = wide_size(s);
+        if room < count + (size - at) {
+            let here = Cursor {
+                segment: SegmentNo(g),
+                selector: s,
+                places,
+            };
+            return page_on(t, x, h, d, n, counts, starts, here, count, out);
+        }
+        let m = gather(t, x, h, d, n, counts, starts, g, at, places, &mut ats);
+        let k = m.count;
+        put_all(t, &ats, k, count, out);
+        count += k;
+        let stop = m.stop;
+        if stop < size {
+            return page_lost(count, g, stop);
+        }
+        g += 1;
+        if n <= g {
+            return page_end(count, n);
+        }
+        places = load(x, segment_at(SegmentNo(g), h, d), h);
+        s = 0;
+    }
+}
+
+// The page from a cursor that is not the end. Where there is no room for a segment, there is nothing to gather; no index that fits has segments
+// of more than 128.
+pub fn page_from(
+    t: &[u8],
+    x: &[u8],
+    h: u8,
+    d: u8,
+    n: u32,
+    counts: &[u16],
+    starts: &[usize],
+    from: Cursor,
+    out: &mut [u8],
+) -> Paged
+    requires { ⌜ Walking (now t) (now x) h d n (now counts) ⌝ }
+    requires { ⌜ Starts (now t) (now starts) ⌝ }
+    requires { ⌜ (from .segment .0 < n) × (from .selector ≤ d) ⌝ }
+    ensures { λ r. ⌜ pagedOf r (now (out .exit)) ≡ walkFrom (now (t .entry)) (now (x .entry)) (pageVisit (now (t .entry))) (spotOf from) (begun (now (out .entry))) ⌝ }
+{
+    if d <= 128 {
+        if wide_size(d) <= out.len() / 24 {
+            return page_segments(t, x, h, d, n, counts, starts, from, out);
+        }
+    }
+    page_on(t, x, h, d, n, counts, starts, from, 0, out)
 }
