@@ -1,10 +1,10 @@
--- `listing::page::put_all` meets its contract. Invariant: the first `i` records are written. Measure: the records left. Assumes nothing.
+-- `listing::write::put_all` meets its contract. Invariant: the first `i` records are written. Measure: the records left. Assumes nothing.
 use mathlib.Core.Path.{refl}
 use Prim.Native.Nat.{_-_}
 use Rattle.listing.specs.Gather.Code.{Putting, putting-first, putting-more, putting-all, part-long}
 use native.Mathlib.Omega.{arith}
-use Rattle.listing.proofs.page.put_all.Statement.{statement}
-use Rattle.listing.proofs.page.put_all.Tie as tie
+use Rattle.listing.proofs.write.put_all.Statement.{statement}
+use Rattle.listing.proofs.write.put_all.Tie as tie
 
 abbrev Inv-loop : tie.InvT-loop
 Inv-loop t ats k count out₀ i₀ out i = Putting t ats k count out₀ i out

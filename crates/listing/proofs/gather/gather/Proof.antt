@@ -1,4 +1,4 @@
--- `listing::page::gather` meets its contract. Invariant: a page that has room for a record a selector, and has written the records gathered so
+-- `listing::gather::gather` meets its contract. Invariant: a page that has room for a record a selector, and has written the records gathered so
 -- far, stands here. Measure: the selectors left. Assumes nothing.
 use mathlib.Core.Path.{refl}
 use Prim.Native.Nat.{_-_}
@@ -7,8 +7,8 @@ use Rattle.walk.specs.Code.Turns.{within, selector-is}
 use Rattle.listing.specs.Gather.Code.{clear-le, Gathering, gathering-first, gathering-pass, gathering-name, gathered-no-run, gathered-no-place, gathered-all}
 use native.Mathlib.Omega.{arith}
 use borrow.Author.Needs.{needs}
-use Rattle.listing.proofs.page.gather.Statement.{statement}
-use Rattle.listing.proofs.page.gather.Tie as tie
+use Rattle.listing.proofs.gather.gather.Statement.{statement}
+use Rattle.listing.proofs.gather.gather.Tie as tie
 
 abbrev Inv-loop : tie.InvT-loop
 Inv-loop t x h d n counts starts g from ats₀ first size places₀ k₀ s₀ ats places k s = Gathering t x d n g s₀ places₀ ats₀ s places k ats

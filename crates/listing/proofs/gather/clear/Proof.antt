@@ -1,9 +1,9 @@
--- `listing::page::clear` meets its contract. Assumes nothing.
+-- `listing::gather::clear` meets its contract. Assumes nothing.
 use Rattle.listing.specs.Gather.Code.{clear-is}
 use native.Mathlib.Omega.{arith}
 use borrow.Author.Needs.{needs}
-use Rattle.listing.proofs.page.clear.Statement.{statement}
-use Rattle.listing.proofs.page.clear.Tie as tie
+use Rattle.listing.proofs.gather.clear.Statement.{statement}
+use Rattle.listing.proofs.gather.clear.Tie as tie
 
 wide-size-requires : tie.Need-wide-size-requires
 wide-size-requires c κs = search needs
