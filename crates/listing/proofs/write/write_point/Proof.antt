@@ -1,4 +1,4 @@
--- `listing::page::write_point` meets its contract: `cut` says that the stretch handed on is the run. Assumes nothing.
+-- `listing::write::write_point` meets its contract: `cut` says that the stretch handed on is the run. Assumes nothing.
 use denote.Ref.{now}
 use Prim.Native.Nat.{ℕ}
 use mathlib.Core.List.{List}
@@ -9,8 +9,8 @@ use Rattle.tray.specs.Run.{recordAt}
 use Rattle.walk.specs.Reads.{listedBytes}
 use native.Mathlib.Omega.{arith}
 use borrow.Author.Needs.{needs}
-use Rattle.listing.proofs.page.write_point.Statement.{statement}
-use Rattle.listing.proofs.page.write_point.Tie as tie
+use Rattle.listing.proofs.write.write_point.Statement.{statement}
+use Rattle.listing.proofs.write.write_point.Tie as tie
 
 wide-size-requires : tie.Need-wide-size-requires
 wide-size-requires c κs = search needs

@@ -1,11 +1,11 @@
--- `listing::page::write_from` meets its contract: three writes, one right behind another. Assumes nothing.
+-- `listing::write::write_from` meets its contract: three writes, one right behind another. Assumes nothing.
 use mathlib.Core.Path.{ap}
 use Prim.Native.Nat.{ℕ, _*_}
 use Rattle.listing.specs.Page.Code.{put-listed}
 use native.Mathlib.Omega.{arith}
 use borrow.Author.Needs.{needs}
-use Rattle.listing.proofs.page.write_from.Statement.{statement}
-use Rattle.listing.proofs.page.write_from.Tie as tie
+use Rattle.listing.proofs.write.write_from.Statement.{statement}
+use Rattle.listing.proofs.write.write_from.Tie as tie
 
 size16-requires : tie.Need-size16-requires
 size16-requires c κs = search needs

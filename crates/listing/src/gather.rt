@@ -1,0 +1,79 @@
+// The records of a segment gathered before they are written.
+use index::SegmentNo;
+use index::frame::segment_at;
+use number::wide_size;
+use tray::Place;
+use tray::frame::size16;
+ghost use mathlib.Core.Bool.{cond};
+ghost use mathlib.Core.Path.{_≡_};
+ghost use Prim.Native.Nat.{_+_, _≤_, _<_};
+ghost use lib.ListN.{length};
+ghost use Rattle.tray.specs.Frame.{Starts};
+ghost use Rattle.walk.specs.Reads.{unmarked};
+ghost use Rattle.walk.specs.Code.{Walking};
+ghost use Rattle.listing.specs.Gather.{GatheredFrom};
+
+// A selector with neither mark as 1, any other as 0: reckoned, since the marks cannot be foretold and so are not branched on.
+fn clear(v: u8) -> usize
+    ensures { λ r. ⌜ r ≡ cond (unmarked v) 1 0 ⌝ }
+{
+    (319 - wide_size(v)) / 256
+}
+
+// How many records were gathered, and the selector where the walk of the segment stopped.
+pub struct Gathered {
+    pub count: usize,
+    pub stop: usize,
+}
+
+// The unmarked records of segment g from a selector on, to its end or to where the walk is lost: where each stands in the tray.
+pub fn gather(
+    t: &[u8],
+    x: &[u8],
+    h: u8,
+    d: u8,
+    n: u32,
+    counts: &[u16],
+    starts: &[usize],
+    g: u32,
+    from: usize,
+    at: [Place; 63],
+    ats: &mut [usize],
+) -> Gathered
+    requires { ⌜ Walking (now t) (now x) h d n (now counts) ⌝ }
+    requires { ⌜ Starts (now t) (now starts) ⌝ }
+    requires { ⌜ (g < n) × (from ≤ d) × (length at ≡ 63) × (d ≤ from + length (now ats)) ⌝ }
+    ensures { λ r. ⌜ GatheredFrom (now (t .entry)) (now (x .entry)) d n g from at (r .count) (r .stop) (now (ats .exit)) ⌝ }
+{
+    let first = segment_at(SegmentNo(g), h, d) + 8 + 2 * wide_size(h);
+    let size = wide_size(d);
+    let mut places = at;
+    let mut k: usize = 0;
+    let mut s = from;
+    while s < size {
+        let v = x[first + s];
+        if v == 63 {
+            s += 1;
+            continue;
+        }
+        let r = v % 64;
+        if r < h {
+            let i = wide_size(r);
+            let p = places[i];
+            let q = p.0;
+            if q < counts[i] {
+                ats[k] = starts[i] + 25 * size16(q);
+                k += clear(v);
+                places[i] = Place(q + 1);
+                s += 1;
+                continue;
+            }
+            return Gathered { count: k, stop: s };
+        }
+        return Gathered { count: k, stop: s };
+    }
+    Gathered {
+        count: k,
+        stop: size,
+    }
+}
