@@ -1,5 +1,8 @@
 -- What a line does to the kept tray and index, and what its answer line says (document 01, "The program `drawer`"), for every line of any bytes.
 -- A tray or index that is not there is empty. Assumes nothing.
+pub mod Front
+pub mod Code
+pub mod Turns
 use Prim.Native.Nat.{ℕ, _+_, _%_}
 use mathlib.Core.Bool.{Bool, true, cond, _&&_}
 use mathlib.Core.List.{List, [], _∷_, _++_}
