@@ -1,0 +1,130 @@
+-- `lines::answer_frame` meets its contract: a way out for each kind. Assumes nothing.
+use lib.Seq.{length-take-le}
+use lib.ListN.{take}
+use mathlib.Core.Path.{sym}
+use Rattle.lines.specs.Line.Turns.{answered-tray, answered-build, answered-read, answered-bad, heard-2-wrong}
+use native.Mathlib.Omega.{arith}
+use borrow.Author.Needs.{needs}
+use Rattle.lines.proofs.answer_frame.Statement.{statement}
+use Rattle.lines.proofs.answer_frame.Tie as tie
+
+shared-slice-read-kind : tie.Need-shared-slice-read-kind
+shared-slice-read-kind c = search needs
+
+sub-keep-tray : tie.Need-sub-keep-tray
+sub-keep-tray c = search needs
+
+part-keep-tray-start : tie.Need-part-keep-tray-start
+part-keep-tray-start c = search needs
+
+part-keep-tray-end : tie.Need-part-keep-tray-end
+part-keep-tray-end c = search needs
+
+keep-tray-requires : tie.Need-keep-tray-requires
+keep-tray-requires c κs = search needs
+
+same-length : tie.Need-same-length
+same-length c = search needs
+
+same-length-2 : tie.Need-same-length-2
+same-length-2 c = search needs
+
+returns : tie.Need-returns
+returns c = answered-tray (c .before .before .before .before .before .before .before .before .before .before .before .before .before .before .before .pre .0) (c .before .before .before .before .before .before .before .before .before .before .before .before .before .before .before .args .number) (c .before .before .before .before .before .before .before .before .before .before .before .before .before .before .before .args .frame .now) (c .before .before .before .before .before .before .before .before .if1 .taken) (c .before .before .before .before .keep-tray .ensures)
+
+slice-reshare-prefix-keep-index : tie.Need-slice-reshare-prefix-keep-index
+slice-reshare-prefix-keep-index c = search needs
+
+slice-aggregate-keep-index : tie.Need-slice-aggregate-keep-index
+slice-aggregate-keep-index c = sym (length-take-le _ _ (omega (arith, c .before .before .before .before .before .before .before .before .before .before .pre .0)))
+
+shared-slice-read-keep-index : tie.Need-shared-slice-read-keep-index
+shared-slice-read-keep-index c = search needs
+
+keep-index-requires : tie.Need-keep-index-requires
+keep-index-requires c κs = search needs
+
+same-length-3 : tie.Need-same-length-3
+same-length-3 c = search needs
+
+same-length-4 : tie.Need-same-length-4
+same-length-4 c = search needs
+
+same-length-5 : tie.Need-same-length-5
+same-length-5 c = search needs
+
+returns-2 : tie.Need-returns-2
+returns-2 c = answered-build (c .before .before .before .before .before .before .before .before .before .before .before .before .before .before .before .before .before .before .pre .0) (c .before .before .before .before .before .before .before .before .before .before .before .before .before .before .before .before .before .before .args .number) (c .before .before .before .before .before .before .before .before .before .before .before .before .before .before .before .before .before .before .args .frame .now) (c .before .before .before .before .before .before .before .before .before .before .if2 .taken) (c .before .before .before .before .before .before .before .before .before .if3 .taken) (c .before .before .before .before .keep-index .ensures)
+
+put-bad-requires : tie.Need-put-bad-requires
+put-bad-requires c κs = search needs
+
+same-length-6 : tie.Need-same-length-6
+same-length-6 c = search needs
+
+returns-3 : tie.Need-returns-3
+returns-3 c = answered-bad (c .before .before .before .before .before .before .before .before .before .before .before .before .before .pre .0) (c .before .before .before .before .before .before .before .before .before .before .before .before .before .args .number) (heard-2-wrong (take (c .before .before .before .before .before .before .before .before .before .before .before .before .before .args .kept .tray) (c .before .before .before .before .before .before .before .before .before .before .before .before .before .args .tray .now)) (take (c .before .before .before .before .before .before .before .before .before .before .before .before .before .args .kept .index) (c .before .before .before .before .before .before .before .before .before .before .before .before .before .args .index .now)) (c .before .before .before .before .before .before .before .before .before .before .before .before .before .args .number) (c .before .before .before .before .before .before .before .before .before .before .before .before .before .args .frame .now) (c .before .before .before .before .before .if2 .taken) (c .before .before .before .before .if3 .left)) (c .before .before .put-bad .ensures)
+
+slice-reshare-prefix-answer-read : tie.Need-slice-reshare-prefix-answer-read
+slice-reshare-prefix-answer-read c = search needs
+
+slice-aggregate-answer-read : tie.Need-slice-aggregate-answer-read
+slice-aggregate-answer-read c = sym (length-take-le _ _ (omega (arith, c .before .before .before .before .before .before .before .before .before .pre .0)))
+
+slice-reshare-prefix-answer-read-2 : tie.Need-slice-reshare-prefix-answer-read-2
+slice-reshare-prefix-answer-read-2 c = search needs
+
+slice-aggregate-answer-read-2 : tie.Need-slice-aggregate-answer-read-2
+slice-aggregate-answer-read-2 c = sym (length-take-le _ _ (omega (arith, c .before .before .before .before .before .before .before .before .before .before .pre .0)))
+
+answer-read-requires : tie.Need-answer-read-requires
+answer-read-requires c κs = search needs
+
+same-length-7 : tie.Need-same-length-7
+same-length-7 c = search needs
+
+same-length-8 : tie.Need-same-length-8
+same-length-8 c = search needs
+
+same-length-9 : tie.Need-same-length-9
+same-length-9 c = search needs
+
+same-length-10 : tie.Need-same-length-10
+same-length-10 c = search needs
+
+returns-4 : tie.Need-returns-4
+returns-4 c = answered-read (c .before .before .before .before .before .before .before .before .before .before .before .before .before .before .before .before .before .pre .0) (c .before .before .before .before .before .before .before .before .before .before .before .before .before .before .before .before .before .args .number) (c .before .before .before .before .before .before .before .before .before .before .before .before .before .before .before .before .before .args .frame .now) (c .before .before .before .before .before .before .before .before .before .before .if1 .left) (c .before .before .before .before .before .before .before .before .before .if2 .left) (c .before .before .before .before .answer-read .ensures)
+
+pub answer-frame-spec : {M : Type 1} → statement M
+answer-frame-spec =
+    tie.close
+    (tie.spec
+    shared-slice-read-kind
+    sub-keep-tray
+    part-keep-tray-start
+    part-keep-tray-end
+    keep-tray-requires
+    same-length
+    same-length-2
+    returns
+    slice-reshare-prefix-keep-index
+    slice-aggregate-keep-index
+    shared-slice-read-keep-index
+    keep-index-requires
+    same-length-3
+    same-length-4
+    same-length-5
+    returns-2
+    put-bad-requires
+    same-length-6
+    returns-3
+    slice-reshare-prefix-answer-read
+    slice-aggregate-answer-read
+    slice-reshare-prefix-answer-read-2
+    slice-aggregate-answer-read-2
+    answer-read-requires
+    same-length-7
+    same-length-8
+    same-length-9
+    same-length-10
+    returns-4)
