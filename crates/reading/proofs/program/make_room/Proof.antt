@@ -1,0 +1,22 @@
+-- `reading::program::make_room` meets its contract: what is carried stays, but for what is written. Assumes nothing.
+use lib.Seq.{length-take-le}
+use mathlib.Core.Path.{sym}
+use borrow.Author.Needs.{needs}
+use Rattle.reading.proofs.program.make_room.Statement.{statement}
+use Rattle.reading.proofs.program.make_room.Tie as tie
+
+returns : tie.Need-returns
+returns c = search needs
+
+slice-aggregate-write-all : tie.Need-slice-aggregate-write-all
+slice-aggregate-write-all c = sym (length-take-le _ _ (c .before .before .before .pre))
+
+write-all-requires : tie.Need-write-all-requires
+write-all-requires c κs = search needs
+
+returns-2 : tie.Need-returns-2
+returns-2 c = search needs
+
+pub make-room-spec : {M : Type 1} → statement M
+make-room-spec =
+    tie.close (tie.spec returns slice-aggregate-write-all write-all-requires returns-2)
