@@ -65,7 +65,13 @@ pub fn tell_tray(runs: u64, tray: &[u8]) {
 pub fn tell_index(tray: &[u8], index: &[u8]) {
     let mut figure: u64 = 0;
     let n = kanyorith_check_index(tray, index, &mut figure);
-    say(b"index, bytes of tray and index", tray.len() as u64, index.len() as u64, n, figure);
+    say(
+        b"index, bytes of tray and index",
+        tray.len() as u64,
+        index.len() as u64,
+        n,
+        figure,
+    );
 }
 
 // Build: D, the room; the bytes changed.
@@ -80,7 +86,13 @@ pub fn tell_build(tray: &[u8], d: u64, out: &mut [u8]) {
 pub fn tell_sheet(tray: &[u8], index: &[u8], prefix: &[u8], out: &mut [u8]) {
     let mut figure: u64 = 0;
     let n = kanyorith_sheet(tray, index, prefix, out, &mut figure);
-    say(b"sheet, prefix bytes and the last", prefix.len() as u64, last(prefix), n, figure);
+    say(
+        b"sheet, prefix bytes and the last",
+        prefix.len() as u64,
+        last(prefix),
+        n,
+        figure,
+    );
     more(changed(out) as u64);
     more(out.len() as u64);
 }
@@ -99,7 +111,13 @@ pub fn tell_get(tray: &[u8], index: &[u8], key: &[u8; 8]) {
     let mut figure: u64 = 0;
     let mut value = [170u8; 16];
     let n = kanyorith_get(tray, index, key, &mut value, &mut figure);
-    say(b"get, index bytes and last of key", index.len() as u64, wide(key[7]), n, figure);
+    say(
+        b"get, index bytes and last of key",
+        index.len() as u64,
+        wide(key[7]),
+        n,
+        figure,
+    );
     more(wide(value[15]));
 }
 
@@ -109,8 +127,22 @@ pub fn tell_seek(tray: &[u8], index: &[u8], key: &[u8; 8]) {
     let mut run: u8 = 0;
     let mut place: u16 = 0;
     let mut cursor = [0u16; 66];
-    let n = kanyorith_seek(tray, index, key, &mut run, &mut place, &mut cursor, &mut figure);
-    say(b"seek, index bytes and last of key", index.len() as u64, wide(key[7]), n, figure);
+    let n = kanyorith_seek(
+        tray,
+        index,
+        key,
+        &mut run,
+        &mut place,
+        &mut cursor,
+        &mut figure,
+    );
+    say(
+        b"seek, index bytes and last of key",
+        index.len() as u64,
+        wide(key[7]),
+        n,
+        figure,
+    );
     more(wide(run));
     more(half(place));
     stand(&cursor);
@@ -131,7 +163,13 @@ pub fn tell_page(tray: &[u8], index: &[u8], cursor: &mut [u16; 66], out: &mut [u
     let mut figure: u64 = 0;
     let mut count: u64 = 0;
     let n = kanyorith_page(tray, index, cursor, out, &mut count, &mut figure);
-    say(b"page, index bytes and room", index.len() as u64, out.len() as u64, n, figure);
+    say(
+        b"page, index bytes and room",
+        index.len() as u64,
+        out.len() as u64,
+        n,
+        figure,
+    );
     more(count);
     more(changed(out) as u64);
     stand(cursor);
