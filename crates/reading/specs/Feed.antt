@@ -3,7 +3,6 @@
 pub mod Code
 pub mod Laws
 pub mod Ready
-mod Cases
 use Prim.Native.Nat.{ℕ, _+_, _%_, _^_}
 use mathlib.Core.Bool.{cond}
 use mathlib.Core.List.{List, [], _∷_, _++_}
