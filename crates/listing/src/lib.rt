@@ -1,5 +1,4 @@
 // Listing from a cursor on (document 01, "Reading through an index"): page.
 pub mod calls;
-pub mod gather;
 pub mod page;
 pub mod write;

@@ -1,7 +1,7 @@
 // Page: key and value of each visible record from a cursor on, as far as there is room.
-use crate::gather::gather;
 use crate::write::put_all;
 use crate::write::write_point;
+use gathering::gather;
 use index::SegmentNo;
 use index::frame::segment_at;
 use number::wide_size;
@@ -185,7 +185,7 @@ fn page_segments(
             };
             return page_on(t, x, h, d, n, counts, starts, here, count, out);
         }
-        let m = gather(t, x, h, d, n, counts, starts, g, at, places, &mut ats);
+        let m = gather(t, x, h, d, n, counts, starts, g, at, places, 0, &mut ats);
         let k = m.count;
         put_all(t, &ats, k, count, out);
         count += k;

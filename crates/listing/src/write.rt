@@ -12,7 +12,8 @@ ghost use Rattle.number.specs.Big.{put};
 ghost use Rattle.tray.specs.Frame.{runCount, countOf, runBytes, Starts};
 ghost use Rattle.tray.specs.Run.{recordAt};
 ghost use Rattle.walk.specs.Reads.{listedBytes};
-ghost use Rattle.listing.specs.Gather.{Within, putAll};
+ghost use Rattle.gathering.specs.Stops.{Within};
+ghost use Rattle.listing.specs.Put.{putAll};
 
 // Key and value of the record at a place of a run, written from a byte on. Both halves of the value are read before either is written: so the
 // compiler joins them, and a record is two loads and two stores.
@@ -44,7 +45,7 @@ pub fn write_point(t: &[u8], starts: &[usize], r: RunNo, p: Place, out: &mut [u8
 
 // The gathered records, written behind the ones that are: each is handed on as its own stretch of the tray.
 pub fn put_all(t: &[u8], ats: &[usize], k: usize, count: usize, out: &mut [u8])
-    requires { ⌜ Within (now t) k (now ats) ⌝ }
+    requires { ⌜ Within (now t) (take k (now ats)) ⌝ }
     requires { ⌜ (k ≤ length (now ats)) × (24 * (count + k) ≤ length (now out)) ⌝ }
     ensures { λ _. ⌜ now (out .exit) ≡ putAll (now (t .entry)) (take k (now (ats .entry))) count (now (out .entry)) ⌝ }
 {

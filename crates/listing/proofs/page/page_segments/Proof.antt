@@ -8,7 +8,8 @@ use Rattle.walk.specs.Code.Turns.{within, here-end, here-whole}
 use Rattle.walk.specs.Code.{spotOf}
 use Rattle.listing.specs.Steps.{onward-from}
 use Rattle.listing.specs.Page.Code.{paging-first, paging-enter}
-use Rattle.listing.specs.Gather.Code.{BySegments, paging-on, paging-lost}
+use Rattle.gathering.specs.Stops.Laws.{within-none, gathered-within}
+use Rattle.listing.specs.Segments.{BySegments, paging-on, paging-lost}
 use native.Mathlib.Omega.{arith}
 use borrow.Author.Needs.{needs}
 use Rattle.listing.proofs.page.page_segments.Statement.{statement}
@@ -55,7 +56,7 @@ slice-aggregate-put-all : tie.Need-slice-aggregate-put-all Inv-loop μ-loop
 slice-aggregate-put-all c = search needs
 
 put-all-requires : tie.Need-put-all-requires Inv-loop μ-loop
-put-all-requires c κs = (c .before .before .before .gather .ensures .within, ((omega (arith, c .before .before .before .gather .ensures .few, c .before .before .before .gather .ensures .high, c .before .before .before .gather .kept .1 .1 .1 .1 .1 .1 .1 .1 .1 .1 .0, c .before .before .before .before .before .before .before .loop .inv .held, c .before .before .before .before .before .before .before .before .before .before .before .before .before .before .before .pre .1 .1 .2)), omega (arith, c .before .before .before .gather .ensures .few, c .before .before .before .gather .ensures .high, c .before .before .before .before .before .if1 .left, c .before .before .before .before .before .before .before .before .before .wide-size .ensures, c .before .before .before .before .before .before .before .loop .inv .paging .room)))
+put-all-requires c κs = (gathered-within (c .before .before .before .before .before .before .before .before .before .before .before .before .before .before .before .pre .1 .0 .frame) (within-none _) (c .before .before .before .gather .ensures), ((omega (arith, c .before .before .before .gather .ensures .few, c .before .before .before .gather .ensures .high, c .before .before .before .gather .kept .1 .1 .1 .1 .1 .1 .1 .1 .1 .1 .1 .0, c .before .before .before .before .before .before .before .loop .inv .held, c .before .before .before .before .before .before .before .before .before .before .before .before .before .before .before .pre .1 .1 .2)), omega (arith, c .before .before .before .gather .ensures .few, c .before .before .before .gather .ensures .high, c .before .before .before .before .before .if1 .left, c .before .before .before .before .before .before .before .before .before .wide-size .ensures, c .before .before .before .before .before .before .before .loop .inv .paging .room)))
 
 add-count : tie.Need-add-count Inv-loop μ-loop
 add-count c = omega (arith, c .before .before .before .before .before .before .gather .ensures .few, c .before .before .before .before .before .before .gather .ensures .high, c .before .before .before .before .before .before .before .before .if1 .left, c .before .before .before .before .before .before .before .before .before .before .before .before .wide-size .ensures, c .before .before .before .before .before .before .before .before .before .before .loop .inv .paging .room, c .before .before .before .before .before .before .before .before .before .before .loop .inv .paging .kept, c .before .before .before .before .before .before .before .before .before .before .before .before .before .before .before .before .before .before .good .1 .1 .1 .1 .1 .1 .1 .1 .0 .0)
@@ -67,7 +68,7 @@ same-length-2 : tie.Need-same-length-2 Inv-loop μ-loop
 same-length-2 c = c .before .before .before .before .put-all .kept .1 .1 .1 .1 .0 ∙ c .before .before .before .before .before .before .before .before .before .before .before .before .loop .inv .paging .kept
 
 returns-2 : tie.Need-returns-2 Inv-loop μ-loop
-returns-2 c = c .page-lost .ensures .of _ ∙ paging-lost (c .before .before .before .before .before .before .before .before .before .before .before .before .loop .inv .paging) (c .before .before .before .before .before .before .before .before .before .before .before .wide-size2 .ensures) (c .before .before .before .before .before .before .before .before .gather .ensures) (omega (arith, c .before .before .before .before .before .before .before .before .before .before .if1 .left, c .before .before .before .before .before .before .before .before .before .before .before .before .before .before .wide-size .ensures)) (c .before .before .before .before .put-all .ensures) (omega (arith, c .before .if2 .taken, c .before .before .before .before .before .before .before .before .before .before .before .before .before .before .wide-size .ensures)) ∙ onward-from (c .before .before .before .before .before .before .before .before .before .before .before .before .before .before .before .before .before .before .before .before .pre .0) (pageVisit _) (c .before .before .before .before .before .before .before .before .before .before .before .before .before .before .before .before .before .before .before .before .args .from) _ refl (c .before .before .before .before .before .before .before .before .before .before .before .before .before .before .before .before .before .before .before .before .pre .1 .1 .0)
+returns-2 c = c .page-lost .ensures .of _ ∙ paging-lost (c .before .before .before .before .before .before .before .before .before .before .before .before .loop .inv .paging) (c .before .before .before .before .before .before .before .before .before .before .before .before .before .before .before .before .before .before .before .before .pre .1 .0 .frame) (c .before .before .before .before .before .before .before .before .before .before .before .wide-size2 .ensures) (c .before .before .before .before .before .before .before .before .gather .ensures) (omega (arith, c .before .before .before .before .before .before .before .before .gather .ensures .few, c .before .before .before .before .before .before .before .before .gather .ensures .high, c .before .before .before .before .before .before .before .before .gather .kept .1 .1 .1 .1 .1 .1 .1 .1 .1 .1 .1 .0, c .before .before .before .before .before .before .before .before .before .before .before .before .loop .inv .held, c .before .before .before .before .before .before .before .before .before .before .before .before .before .before .before .before .before .before .before .before .pre .1 .1 .2)) (omega (arith, c .before .before .before .before .before .before .before .before .before .before .if1 .left, c .before .before .before .before .before .before .before .before .before .before .before .before .before .before .wide-size .ensures)) (c .before .before .before .before .put-all .ensures) (omega (arith, c .before .if2 .taken, c .before .before .before .before .before .before .before .before .before .before .before .before .before .before .wide-size .ensures)) ∙ onward-from (c .before .before .before .before .before .before .before .before .before .before .before .before .before .before .before .before .before .before .before .before .pre .0) (pageVisit _) (c .before .before .before .before .before .before .before .before .before .before .before .before .before .before .before .before .before .before .before .before .args .from) _ refl (c .before .before .before .before .before .before .before .before .before .before .before .before .before .before .before .before .before .before .before .before .pre .1 .1 .0)
 
 add-g : tie.Need-add-g Inv-loop μ-loop
 add-g c = search needs
@@ -79,7 +80,7 @@ same-length-3 : tie.Need-same-length-3 Inv-loop μ-loop
 same-length-3 c = c .before .before .before .before .before .put-all .kept .1 .1 .1 .1 .0 ∙ c .before .before .before .before .before .before .before .before .before .before .before .before .before .loop .inv .paging .kept
 
 returns-3 : tie.Need-returns-3 Inv-loop μ-loop
-returns-3 c = c .page-end .ensures .of _ ∙ here-end (c .before .before .before .before .before .before .before .before .before .before .before .before .before .before .before .before .before .before .before .before .before .pre .0) ((paging-on (c .before .before .before .before .before .before .before .before .before .before .before .before .before .loop .inv .paging) (c .before .before .before .before .before .before .before .before .before .before .before .before .wide-size2 .ensures) (c .before .before .before .before .before .before .before .before .before .gather .ensures) (omega (arith, c .before .before .before .before .before .before .before .before .before .before .before .if1 .left, c .before .before .before .before .before .before .before .before .before .before .before .before .before .before .before .wide-size .ensures)) (c .before .before .before .before .before .put-all .ensures) (omega (arith, c .before .before .if2 .left, c .before .before .before .before .before .before .before .before .before .before .before .before .before .before .before .wide-size .ensures)) (omega (arith, c .before .before .before .before .before .before .before .before .before .gather .ensures .few, c .before .before .before .before .before .before .before .before .before .gather .ensures .high, c .before .before .before .before .before .before .before .before .before .gather .kept .1 .1 .1 .1 .1 .1 .1 .1 .1 .1 .0, c .before .before .before .before .before .before .before .before .before .before .before .before .before .loop .inv .held, c .before .before .before .before .before .before .before .before .before .before .before .before .before .before .before .before .before .before .before .before .before .pre .1 .1 .2))) .here) (omega arith) (c .before .if3 .taken) ∙ onward-from (c .before .before .before .before .before .before .before .before .before .before .before .before .before .before .before .before .before .before .before .before .before .pre .0) (pageVisit _) (c .before .before .before .before .before .before .before .before .before .before .before .before .before .before .before .before .before .before .before .before .before .args .from) _ refl (c .before .before .before .before .before .before .before .before .before .before .before .before .before .before .before .before .before .before .before .before .before .pre .1 .1 .0)
+returns-3 c = c .page-end .ensures .of _ ∙ here-end (c .before .before .before .before .before .before .before .before .before .before .before .before .before .before .before .before .before .before .before .before .before .pre .0) ((paging-on (c .before .before .before .before .before .before .before .before .before .before .before .before .before .loop .inv .paging) (c .before .before .before .before .before .before .before .before .before .before .before .before .before .before .before .before .before .before .before .before .before .pre .1 .0 .frame) (c .before .before .before .before .before .before .before .before .before .before .before .before .wide-size2 .ensures) (c .before .before .before .before .before .before .before .before .before .gather .ensures) (omega (arith, c .before .before .before .before .before .before .before .before .before .gather .ensures .few, c .before .before .before .before .before .before .before .before .before .gather .ensures .high, c .before .before .before .before .before .before .before .before .before .gather .kept .1 .1 .1 .1 .1 .1 .1 .1 .1 .1 .1 .0, c .before .before .before .before .before .before .before .before .before .before .before .before .before .loop .inv .held, c .before .before .before .before .before .before .before .before .before .before .before .before .before .before .before .before .before .before .before .before .before .pre .1 .1 .2)) (omega (arith, c .before .before .before .before .before .before .before .before .before .before .before .if1 .left, c .before .before .before .before .before .before .before .before .before .before .before .before .before .before .before .wide-size .ensures)) (c .before .before .before .before .before .put-all .ensures) (omega (arith, c .before .before .if2 .left, c .before .before .before .before .before .before .before .before .before .before .before .before .before .before .before .wide-size .ensures))) .here) (omega arith) (c .before .if3 .taken) ∙ onward-from (c .before .before .before .before .before .before .before .before .before .before .before .before .before .before .before .before .before .before .before .before .before .pre .0) (pageVisit _) (c .before .before .before .before .before .before .before .before .before .before .before .before .before .before .before .before .before .before .before .before .before .args .from) _ refl (c .before .before .before .before .before .before .before .before .before .before .before .before .before .before .before .before .before .before .before .before .before .pre .1 .1 .0)
 
 segment-at-requires : tie.Need-segment-at-requires Inv-loop μ-loop
 segment-at-requires c κs = search needs
@@ -91,7 +92,7 @@ loop-less : tie.Need-loop-less Inv-loop μ-loop
 loop-less c = omega arith
 
 loop-again : tie.Need-loop-again Inv-loop μ-loop
-loop-again c = record { paging = paging-enter (paging-on (c .before .before .before .before .before .before .before .before .before .before .before .before .before .before .loop .inv .paging) (c .before .before .before .before .before .before .before .before .before .before .before .before .before .wide-size2 .ensures) (c .before .before .before .before .before .before .before .before .before .before .gather .ensures) (omega (arith, c .before .before .before .before .before .before .before .before .before .before .before .before .if1 .left, c .before .before .before .before .before .before .before .before .before .before .before .before .before .before .before .before .wide-size .ensures)) (c .before .before .before .before .before .before .put-all .ensures) (omega (arith, c .before .before .before .if2 .left, c .before .before .before .before .before .before .before .before .before .before .before .before .before .before .before .before .wide-size .ensures)) (omega (arith, c .before .before .before .before .before .before .before .before .before .before .gather .ensures .few, c .before .before .before .before .before .before .before .before .before .before .gather .ensures .high, c .before .before .before .before .before .before .before .before .before .before .gather .kept .1 .1 .1 .1 .1 .1 .1 .1 .1 .1 .0, c .before .before .before .before .before .before .before .before .before .before .before .before .before .before .loop .inv .held, c .before .before .before .before .before .before .before .before .before .before .before .before .before .before .before .before .before .before .before .before .before .before .pre .1 .1 .2))) (c .before .before .before .before .before .before .before .before .before .before .before .before .before .before .before .before .before .before .before .before .before .before .pre .0) (omega arith) (c .before .before .if3 .left) (c .before .segment-at .ensures) (c .load .ensures); fits = omega (arith, c .before .before .before .before .before .before .before .before .before .before .gather .ensures .few, c .before .before .before .before .before .before .before .before .before .before .gather .ensures .high, c .before .before .before .before .before .before .before .before .before .before .before .before .if1 .left, c .before .before .before .before .before .before .before .before .before .before .before .before .before .before .before .before .wide-size .ensures); held = c .before .before .before .before .before .before .before .before .before .before .gather .kept .1 .1 .1 .1 .1 .1 .1 .1 .1 .1 .0 ∙ c .before .before .before .before .before .before .before .before .before .before .before .before .before .before .loop .inv .held }
+loop-again c = record { paging = paging-enter (paging-on (c .before .before .before .before .before .before .before .before .before .before .before .before .before .before .loop .inv .paging) (c .before .before .before .before .before .before .before .before .before .before .before .before .before .before .before .before .before .before .before .before .before .before .pre .1 .0 .frame) (c .before .before .before .before .before .before .before .before .before .before .before .before .before .wide-size2 .ensures) (c .before .before .before .before .before .before .before .before .before .before .gather .ensures) (omega (arith, c .before .before .before .before .before .before .before .before .before .before .gather .ensures .few, c .before .before .before .before .before .before .before .before .before .before .gather .ensures .high, c .before .before .before .before .before .before .before .before .before .before .gather .kept .1 .1 .1 .1 .1 .1 .1 .1 .1 .1 .1 .0, c .before .before .before .before .before .before .before .before .before .before .before .before .before .before .loop .inv .held, c .before .before .before .before .before .before .before .before .before .before .before .before .before .before .before .before .before .before .before .before .before .before .pre .1 .1 .2)) (omega (arith, c .before .before .before .before .before .before .before .before .before .before .before .before .if1 .left, c .before .before .before .before .before .before .before .before .before .before .before .before .before .before .before .before .wide-size .ensures)) (c .before .before .before .before .before .before .put-all .ensures) (omega (arith, c .before .before .before .if2 .left, c .before .before .before .before .before .before .before .before .before .before .before .before .before .before .before .before .wide-size .ensures))) (c .before .before .before .before .before .before .before .before .before .before .before .before .before .before .before .before .before .before .before .before .before .before .pre .0) (omega arith) (c .before .before .if3 .left) (c .before .segment-at .ensures) (c .load .ensures); fits = omega (arith, c .before .before .before .before .before .before .before .before .before .before .gather .ensures .few, c .before .before .before .before .before .before .before .before .before .before .gather .ensures .high, c .before .before .before .before .before .before .before .before .before .before .before .before .if1 .left, c .before .before .before .before .before .before .before .before .before .before .before .before .before .before .before .before .wide-size .ensures); held = c .before .before .before .before .before .before .before .before .before .before .gather .kept .1 .1 .1 .1 .1 .1 .1 .1 .1 .1 .1 .0 ∙ c .before .before .before .before .before .before .before .before .before .before .before .before .before .before .loop .inv .held }
 
 pub page-segments-spec : {M : Type 1} → statement M
 page-segments-spec =

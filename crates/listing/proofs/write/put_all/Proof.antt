@@ -1,7 +1,8 @@
 -- `listing::write::put_all` meets its contract. Invariant: the first `i` records are written. Measure: the records left. Assumes nothing.
 use mathlib.Core.Path.{refl}
 use Prim.Native.Nat.{_-_}
-use Rattle.listing.specs.Gather.Code.{Putting, putting-first, putting-more, putting-all, part-long}
+use Rattle.gathering.specs.Stops.Laws.{within-at}
+use Rattle.listing.specs.Put.Code.{Putting, putting-first, putting-more, putting-all, part-long}
 use native.Mathlib.Omega.{arith}
 use Rattle.listing.proofs.write.put_all.Statement.{statement}
 use Rattle.listing.proofs.write.put_all.Tie as tie
@@ -22,7 +23,7 @@ shared-slice-read-a : tie.Need-shared-slice-read-a Inv-loop μ-loop
 shared-slice-read-a c = omega (arith, c .before .loop-test .taken, c .before .before .before .before .before .before .pre .1 .0)
 
 add-write-from : tie.Need-add-write-from Inv-loop μ-loop
-add-write-from c = omega (arith, c .before .before .before .before .before .before .pre .0 .ends _ (c .before .loop-test .taken), c .before .before .before .before .before .before .good .0 .0)
+add-write-from c = omega (arith, within-at _ _ (c .before .before .before .before .before .before .pre .0) _ (c .before .loop-test .taken) (c .before .before .before .before .before .before .pre .1 .0), c .before .before .before .before .before .before .good .0 .0)
 
 sub-write-from : tie.Need-sub-write-from Inv-loop μ-loop
 sub-write-from c = omega arith
@@ -31,7 +32,7 @@ part-write-from-start : tie.Need-part-write-from-start Inv-loop μ-loop
 part-write-from-start c = omega arith
 
 part-write-from-end : tie.Need-part-write-from-end Inv-loop μ-loop
-part-write-from-end c = omega (arith, c .before .before .before .before .before .before .pre .0 .ends _ (c .before .loop-test .taken))
+part-write-from-end c = omega (arith, within-at _ _ (c .before .before .before .before .before .before .pre .0) _ (c .before .loop-test .taken) (c .before .before .before .before .before .before .pre .1 .0))
 
 add-write-from-2 : tie.Need-add-write-from-2 Inv-loop μ-loop
 add-write-from-2 c = omega (arith, c .before .before .before .loop-test .taken, c .before .before .before .before .before .before .before .before .pre .1 .1, c .before .before .before .before .before .before .before .before .good .1 .1 .1 .1 .0 .0)
@@ -40,7 +41,7 @@ mul-write-from : tie.Need-mul-write-from Inv-loop μ-loop
 mul-write-from c = omega (arith, c .before .before .before .loop-test .taken, c .before .before .before .before .before .before .before .before .pre .1 .1, c .before .before .before .before .before .before .before .before .good .1 .1 .1 .1 .0 .0)
 
 write-from-requires : tie.Need-write-from-requires Inv-loop μ-loop
-write-from-requires c κs = (part-long _ _ refl (c .before .before .before .before .before .before .before .before .pre .0 .ends _ (c .before .before .before .loop-test .taken)), omega (arith, c .before .before .before .loop-test .taken, c .before .before .before .before .before .before .before .before .pre .1 .1, c .before .before .before .before .loop .inv .kept))
+write-from-requires c κs = (part-long _ _ refl (within-at _ _ (c .before .before .before .before .before .before .before .before .pre .0) _ (c .before .before .before .loop-test .taken) (c .before .before .before .before .before .before .before .before .pre .1 .0)), omega (arith, c .before .before .before .loop-test .taken, c .before .before .before .before .before .before .before .before .pre .1 .1, c .before .before .before .before .loop .inv .kept))
 
 add-i : tie.Need-add-i Inv-loop μ-loop
 add-i c = omega arith

@@ -1,9 +1,9 @@
--- `listing::gather::clear` meets its contract. Assumes nothing.
-use Rattle.listing.specs.Gather.Code.{clear-is}
+-- `gathering::clear` meets its contract. Assumes nothing.
+use Rattle.gathering.specs.Stops.Code.{clear-is}
 use native.Mathlib.Omega.{arith}
 use borrow.Author.Needs.{needs}
-use Rattle.listing.proofs.gather.clear.Statement.{statement}
-use Rattle.listing.proofs.gather.clear.Tie as tie
+use Rattle.gathering.proofs.clear.Statement.{statement}
+use Rattle.gathering.proofs.clear.Tie as tie
 
 wide-size-requires : tie.Need-wide-size-requires
 wide-size-requires c κs = search needs

@@ -1,4 +1,4 @@
-// The records of a segment gathered before they are written.
+// The unmarked records of a segment gathered before they are looked at.
 use index::SegmentNo;
 use index::frame::segment_at;
 use number::wide_size;
@@ -11,22 +11,23 @@ ghost use lib.ListN.{length};
 ghost use Rattle.tray.specs.Frame.{Starts};
 ghost use Rattle.walk.specs.Reads.{unmarked};
 ghost use Rattle.walk.specs.Code.{Walking};
-ghost use Rattle.listing.specs.Gather.{GatheredFrom};
+ghost use Rattle.gathering.specs.Stops.{GatheredFrom};
 
 // A selector with neither mark as 1, any other as 0: reckoned, since the marks cannot be foretold and so are not branched on.
-fn clear(v: u8) -> usize
+pub fn clear(v: u8) -> usize
     ensures { λ r. ⌜ r ≡ cond (unmarked v) 1 0 ⌝ }
 {
     (319 - wide_size(v)) / 256
 }
 
-// How many records were gathered, and the selector where the walk of the segment stopped.
+// How many records stand gathered, and the selector where the walk of the segment stopped.
 pub struct Gathered {
     pub count: usize,
     pub stop: usize,
 }
 
-// The unmarked records of segment g from a selector on, to its end or to where the walk is lost: where each stands in the tray.
+// The unmarked records of segment g from a selector on, to its end or to where the walk is lost: where each stands in the tray, behind so many
+// gathered before.
 pub fn gather(
     t: &[u8],
     x: &[u8],
@@ -38,17 +39,18 @@ pub fn gather(
     g: u32,
     from: usize,
     at: [Place; 63],
+    before: usize,
     ats: &mut [usize],
 ) -> Gathered
     requires { ⌜ Walking (now t) (now x) h d n (now counts) ⌝ }
     requires { ⌜ Starts (now t) (now starts) ⌝ }
-    requires { ⌜ (g < n) × (from ≤ d) × (length at ≡ 63) × (d ≤ from + length (now ats)) ⌝ }
-    ensures { λ r. ⌜ GatheredFrom (now (t .entry)) (now (x .entry)) d n g from at (r .count) (r .stop) (now (ats .exit)) ⌝ }
+    requires { ⌜ (g < n) × (from ≤ d) × (length at ≡ 63) × (d + before ≤ from + length (now ats)) ⌝ }
+    ensures { λ r. ⌜ GatheredFrom (now (t .entry)) (now (x .entry)) d g from at before (now (ats .entry)) (r .count) (r .stop) (now (ats .exit)) ⌝ }
 {
     let first = segment_at(SegmentNo(g), h, d) + 8 + 2 * wide_size(h);
     let size = wide_size(d);
     let mut places = at;
-    let mut k: usize = 0;
+    let mut k = before;
     let mut s = from;
     while s < size {
         let v = x[first + s];

@@ -1,20 +1,20 @@
--- `listing::gather::gather` meets its contract. Invariant: a page that has room for a record a selector, and has written the records gathered so
--- far, stands here. Measure: the selectors left. Assumes nothing.
+-- `gathering::gather` meets its contract. Invariant: what is gathered, with what is still to come, is all that is to be gathered. Measure: the
+-- selectors left. Assumes nothing.
 use mathlib.Core.Path.{refl}
 use Prim.Native.Nat.{_-_}
 use Rattle.tray.specs.Frame.Code.{cut}
 use Rattle.walk.specs.Code.Turns.{within, selector-is}
-use Rattle.listing.specs.Gather.Code.{clear-le, Gathering, gathering-first, gathering-pass, gathering-name, gathered-no-run, gathered-no-place, gathered-all}
+use Rattle.gathering.specs.Stops.Code.{clear-le, Gathering, gathering-first, gathering-pass, gathering-name, gathered-no-run, gathered-no-place, gathered-all}
 use native.Mathlib.Omega.{arith}
 use borrow.Author.Needs.{needs}
-use Rattle.listing.proofs.gather.gather.Statement.{statement}
-use Rattle.listing.proofs.gather.gather.Tie as tie
+use Rattle.gathering.proofs.gather.Statement.{statement}
+use Rattle.gathering.proofs.gather.Tie as tie
 
 abbrev Inv-loop : tie.InvT-loop
-Inv-loop t x h d n counts starts g from ats₀ first size places₀ k₀ s₀ ats places k s = Gathering t x d n g s₀ places₀ ats₀ s places k ats
+Inv-loop t x h d n counts starts g from before ats₀ first size places₀ k₀ s₀ ats places k s = Gathering t x d g s₀ places₀ before ats₀ s places k ats
 
 abbrev μ-loop : tie.MeasureT-loop
-μ-loop t x h d n counts starts g from ats₀ first size places₀ k₀ s₀ ats places k s = size - s
+μ-loop t x h d n counts starts g from before ats₀ first size places₀ k₀ s₀ ats places k s = size - s
 
 segment-at-requires : tie.Need-segment-at-requires Inv-loop μ-loop
 segment-at-requires c κs = search needs
@@ -35,7 +35,7 @@ wide-size-requires-2 : tie.Need-wide-size-requires-2 Inv-loop μ-loop
 wide-size-requires-2 c κs = search needs
 
 loop-holds : tie.Need-loop-holds Inv-loop μ-loop
-loop-holds c = gathering-first _ _ _ (c .before .before .before .before .before .before .before .before .pre .1 .1 .0) (c .before .before .before .before .before .before .before .before .pre .1 .1 .1) (c .before .before .before .before .before .before .before .before .pre .1 .1 .2)
+loop-holds c = gathering-first _ _ _ _ (c .before .before .before .before .before .before .before .before .pre .1 .1 .1) (c .before .before .before .before .before .before .before .before .pre .1 .1 .2)
 
 add-v : tie.Need-add-v Inv-loop μ-loop
 add-v c = omega (arith, within (c .before .before .before .before .before .before .before .before .before .before .pre .0) (c .before .before .before .before .before .before .before .before .before .before .pre .1 .1 .0) (c .before .before .before .before .segment-at .ensures), c .before .before .before .wide-size .ensures, c .before .before .wide-size2 .ensures, c .loop-test .taken)
@@ -83,19 +83,19 @@ add-ats : tie.Need-add-ats Inv-loop μ-loop
 add-ats c = let k = cut _ (c .before .before .before .before .before .before .before .before .before .before .before .before .before .before .before .before .before .before .before .pre .1 .0) (omega (arith, c .before .before .before .before .before .before .before .before .before .before .before .before .before .before .before .before .before .before .before .pre .0 .runs, c .before .before .before .before .before .before .if2 .taken)) (c .before .before .before .before .before .wide-size3 .ensures) in omega (arith, k .start, k .end, c .before .before .before .before .before .before .before .before .before .before .before .before .before .before .before .before .before .before .before .good .0 .0, c .size16 .ensures, c .before .before .before .shared-slice-known6 .given (c .before .before .before .before .before .wide-size3 .result), c .before .before .if3 .taken)
 
 mul-ats-3 : tie.Need-mul-ats-3 Inv-loop μ-loop
-mul-ats-3 c = omega (arith, c .before .before .before .before .before .before .before .before .before .before .loop .inv .few, c .before .before .before .before .before .before .before .before .before .loop-test .taken, c .before .before .before .before .before .before .before .before .before .before .before .wide-size2 .ensures)
+mul-ats-3 c = omega (arith, c .before .before .before .before .before .before .before .before .before .before .loop .inv .few, c .before .before .before .before .before .before .before .before .before .loop-test .taken, c .before .before .before .before .before .before .before .before .before .before .before .wide-size2 .ensures, c .before .before .before .before .before .before .before .before .before .before .before .before .before .before .before .before .before .before .before .pre .1 .1 .3, c .before .before .before .before .before .before .before .before .before .before .loop .inv .kept, c .before .before .before .before .before .before .before .before .before .before .before .before .before .before .before .before .before .before .before .good .0 .0)
 
 slice-write-ats : tie.Need-slice-write-ats Inv-loop μ-loop
-slice-write-ats c = omega (arith, c .before .before .before .before .before .before .before .before .before .before .loop .inv .few, c .before .before .before .before .before .before .before .before .before .loop-test .taken, c .before .before .before .before .before .before .before .before .before .before .before .wide-size2 .ensures, c .before .before .before .before .before .before .before .before .before .before .before .before .before .before .before .before .before .before .before .pre .1 .1 .3, c .before .before .before .before .before .before .before .before .before .before .loop .inv .kept)
+slice-write-ats c = omega (arith, c .before .before .before .before .before .before .before .before .before .before .loop .inv .few, c .before .before .before .before .before .before .before .before .before .loop-test .taken, c .before .before .before .before .before .before .before .before .before .before .before .wide-size2 .ensures, c .before .before .before .before .before .before .before .before .before .before .before .before .before .before .before .before .before .before .before .pre .1 .1 .3, c .before .before .before .before .before .before .before .before .before .before .loop .inv .kept, c .before .before .before .before .before .before .before .before .before .before .before .before .before .before .before .before .before .before .before .pre .1 .1 .3, c .before .before .before .before .before .before .before .before .before .before .loop .inv .kept, c .before .before .before .before .before .before .before .before .before .before .before .before .before .before .before .before .before .before .before .good .0 .0)
 
 clear-requires : tie.Need-clear-requires Inv-loop μ-loop
 clear-requires c κs = search needs
 
 add-k : tie.Need-add-k Inv-loop μ-loop
-add-k c = omega (arith, clear-le _ (c .clear .ensures), c .before .before .before .before .before .before .before .before .before .before .before .loop .inv .few, c .before .before .before .before .before .before .before .before .before .before .loop-test .taken, c .before .before .before .before .before .before .before .before .before .before .before .before .wide-size2 .ensures)
+add-k c = omega (arith, clear-le _ (c .clear .ensures), c .before .before .before .before .before .before .before .before .before .before .before .loop .inv .few, c .before .before .before .before .before .before .before .before .before .before .loop-test .taken, c .before .before .before .before .before .before .before .before .before .before .before .before .wide-size2 .ensures, c .before .before .before .before .before .before .before .before .before .before .before .before .before .before .before .before .before .before .before .before .pre .1 .1 .3, c .before .before .before .before .before .before .before .before .before .before .before .loop .inv .kept, c .before .before .before .before .before .before .before .before .before .before .before .before .before .before .before .before .before .before .before .before .good .0 .0)
 
-add-t46 : tie.Need-add-t46 Inv-loop μ-loop
-add-t46 c = omega (arith, c .before .before .before .before .shared-slice-known6 .given (c .before .before .before .before .before .before .wide-size3 .result), c .before .before .before .if3 .taken)
+add-t47 : tie.Need-add-t47 Inv-loop μ-loop
+add-t47 c = omega (arith, c .before .before .before .before .shared-slice-known6 .given (c .before .before .before .before .before .before .wide-size3 .result), c .before .before .before .if3 .taken)
 
 mul-places : tie.Need-mul-places Inv-loop μ-loop
 mul-places c = omega arith
@@ -128,7 +128,7 @@ same-length-3 : tie.Need-same-length-3 Inv-loop μ-loop
 same-length-3 c = c .before .loop .inv .kept
 
 returns-3 : tie.Need-returns-3 Inv-loop μ-loop
-returns-3 c = gathered-all (c .before .loop .inv) (c .before .before .wide-size2 .ensures) (c .loop-test .left) (c .before .before .before .before .before .before .before .before .before .before .pre .1 .1 .2)
+returns-3 c = gathered-all (c .before .loop .inv) (c .before .before .wide-size2 .ensures) (c .loop-test .left)
 
 pub gather-spec : {M : Type 1} → statement M
 gather-spec =
@@ -162,7 +162,7 @@ gather-spec =
     slice-write-ats
     clear-requires
     add-k
-    add-t46
+    add-t47
     mul-places
     array-set-from-places
     add-s-2
