@@ -1,53 +1,62 @@
-// How many records sheet lists: the walk of its first pass, which writes nothing.
+// How many records sheet lists: the walk of its first pass, which writes nothing. It goes a segment at a time, and remembers where the records
+// stand as long as there is room for those of a segment.
+use gathering::gather;
 use index::SegmentNo;
 use index::frame::segment_at;
-use index::select::head_of;
 use listing::page::Stop;
 use number::wide_size;
 use tray::Place;
-use tray::RunNo;
+use tray::run::key_at;
 use walk::cursor::Cursor;
 use walk::cursor::load;
 ghost use mathlib.Core.Path.{_≡_};
 ghost use mathlib.Core.Bool.{cond};
 ghost use mathlib.Core.List.{[]};
-ghost use Prim.Native.Nat.{_*_, _≤_, _<_};
-ghost use lib.Dec.{leb, ltb};
+ghost use Prim.Native.Nat.{_+_, _*_, _≤_, _<_};
+ghost use lib.Dec.{leb};
+ghost use lib.ListN.{length, take};
 ghost use Rattle.tray.specs.Frame.{Starts};
 ghost use Rattle.walk.specs.Walk.{walkFrom};
 ghost use Rattle.walk.specs.Reads.{sheetVisit};
 ghost use Rattle.walk.specs.Code.{Walking, spotOf};
-ghost use Rattle.counting.specs.Count.{lengths, countedAs, countedOf};
+ghost use Rattle.gathering.specs.Stops.{Within};
+ghost use Rattle.counting.specs.Count.{Past, Counts};
 
-// The end of a count: where the walk stopped, and how many records it passed that are to be listed.
+// The end of a count: where the walk stopped, how many records it passed that are to be listed, and how many of them, the last ones, are
+// remembered.
 pub struct Counted {
     pub stop: Stop,
     pub count: usize,
+    pub held: usize,
 }
 
-// The count stops.
-fn tallied(stop: Stop, count: usize) -> Counted
-    ensures { λ r. ⌜ countedOf r ≡ countedAs stop count ⌝ }
-    ensures { λ r. ⌜ r .count ≡ count ⌝ }
+// The first of the gathered records whose key is at or above a bound, or their end.
+fn first_past(t: &[u8], ats: &[usize], from: usize, to: usize, high: u64) -> usize
+    requires { ⌜ Within (now t) (take to (now ats)) ⌝ }
+    requires { ⌜ (from ≤ to) × (to ≤ length (now ats)) ⌝ }
+    ensures { λ r. ⌜ Past (now (t .entry)) (now (ats .entry)) from to high r ⌝ }
 {
-    Counted { stop, count }
+    let mut i = from;
+    while i < to {
+        let a = ats[i];
+        if high <= key_at(&t[a..a + 25], Place(0)) {
+            return i;
+        }
+        i += 1;
+    }
+    to
 }
 
-// An unmarked selector is one record, and a marked one none. Which it is cannot be foretold, so that a branch would often go wrong: the key is
-// read and the number added whatever the mark, and the mark is reckoned as a number.
-fn listed(v: u8) -> usize
-    ensures { λ n. ⌜ n ≡ cond (ltb v 64) 1 0 ⌝ }
-    ensures { λ n. ⌜ n ≤ 1 ⌝ }
+// So many are remembered where there is room for more, and else none.
+fn fitting(held: usize, more: usize, room: usize) -> usize
+    requires { ⌜ (held ≤ room) × (more ≤ room) ⌝ }
+    ensures { λ r. ⌜ r ≡ cond (leb (held + more) room) held 0 ⌝ }
+    ensures { λ r. ⌜ r + more ≤ room ⌝ }
 {
-    wide_size((4 - v / 64) / 4)
-}
-
-// A key at or above the bound, as a number.
-fn reached(high: u64, key: u64) -> usize
-    ensures { λ n. ⌜ n ≡ cond (leb high key) 1 0 ⌝ }
-    ensures { λ n. ⌜ n ≤ 1 ⌝ }
-{
-    if high <= key { 1 } else { 0 }
+    if room - held < more {
+        return 0;
+    }
+    held
 }
 
 // How many unmarked records stand from a cursor on, which is not the end, until the first key at or above a bound.
@@ -61,50 +70,50 @@ pub fn count_from(
     starts: &[usize],
     from: Cursor,
     high: u64,
+    ats: &mut [usize],
 ) -> Counted
     requires { ⌜ Walking (now t) (now x) h d n (now counts) ⌝ }
     requires { ⌜ Starts (now t) (now starts) ⌝ }
-    requires { ⌜ (from .segment .0 < n) × (from .selector ≤ d) ⌝ }
-    ensures { λ r. ⌜ countedOf r ≡ lengths (walkFrom (now (t .entry)) (now (x .entry)) (sheetVisit (now (t .entry)) high) (spotOf from) []) ⌝ }
+    requires { ⌜ (from .segment .0 < n) × (from .selector ≤ d) × (d ≤ length (now ats)) ⌝ }
+    ensures { λ r. ⌜ Counts (now (t .entry)) (walkFrom (now (t .entry)) (now (x .entry)) (sheetVisit (now (t .entry)) high) (spotOf from) []) r (now (ats .exit)) ⌝ }
     ensures { λ r. ⌜ r .count ≤ 256 * n ⌝ }
 {
-    let mut count: usize = 0;
-    let mut g = from.segment.0;
+    let room = ats.len();
     let size = wide_size(d);
-    let mut s = wide_size(from.selector);
+    let mut count: usize = 0;
+    let mut held: usize = 0;
+    let mut g = from.segment.0;
+    let mut s = from.selector;
     let mut places = from.places;
-    'walk: loop {
-        let first = segment_at(SegmentNo(g), h, d) + 8 + 2 * wide_size(h);
-        while s < size {
-            let v = x[first + s];
-            if v == 63 {
-                s += 1;
-                continue;
-            }
-            let r = v % 64;
-            if r < h {
-                let i = wide_size(r);
-                let p = places[i];
-                let q = p.0;
-                if q < counts[i] {
-                    let e = head_of(t, starts, RunNo(r), p);
-                    let key = e.key;
-                    let one = listed(v);
-                    if one + reached(high, key) == 2 {
-                        break 'walk tallied(Stop::More, count);
-                    }
-                    count += one;
-                    places[i] = Place(q + 1);
-                    s += 1;
-                    continue;
-                }
-                break 'walk tallied(Stop::Lost(g, s as u32), count);
-            }
-            break 'walk tallied(Stop::Lost(g, s as u32), count);
+    loop {
+        let at = wide_size(s);
+        let before = fitting(held, size - at, room);
+        let m = gather(t, x, h, d, n, counts, starts, g, at, places, before, ats);
+        let k = m.count;
+        held = first_past(t, ats, before, k, high);
+        count += held - before;
+        if held < k {
+            return Counted {
+                stop: Stop::More,
+                count,
+                held,
+            };
+        }
+        let stop = m.stop;
+        if stop < size {
+            return Counted {
+                stop: Stop::Lost(g, stop as u32),
+                count,
+                held,
+            };
         }
         g += 1;
         if n <= g {
-            break 'walk tallied(Stop::End, count);
+            return Counted {
+                stop: Stop::End,
+                count,
+                held,
+            };
         }
         places = load(x, segment_at(SegmentNo(g), h, d), h);
         s = 0;

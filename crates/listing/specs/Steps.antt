@@ -4,7 +4,6 @@
 --     onward-from                         from a cursor on
 --     here-pass, here-no-run, here-no-place, here-stay, here-go     one selector
 -- Assumes nothing.
-pub mod Maps
 use mathlib.Core.Path.{_≡_, refl, sym, ap, ap₂, _∙_}
 use Prim.Native.Nat.{ℕ, _+_, _-_, _%_, _≤_, _<_}
 use native.Mathlib.Omega.{arith}

@@ -7,6 +7,7 @@ use index::frame::index_frame;
 use index::select::head_of;
 use listing::page::Stop;
 use listing::page::page_from;
+use listing::write::put_all;
 use refusal::Refusal;
 use tray::frame::TrayFrame;
 use tray::frame::tray_frame;
@@ -17,12 +18,13 @@ use walk::seek::seek_from;
 ghost use mathlib.Core.Path.{_≡_};
 ghost use mathlib.Core.List.{[]};
 ghost use Prim.Native.Nat.{_*_, _≤_, _<_};
-ghost use lib.ListN.{length};
+ghost use lib.ListN.{length, take};
 ghost use Rattle.tray.specs.Frame.{Starts, Opened};
 ghost use Rattle.index.specs.Layout.Code.{Laid};
 ghost use Rattle.walk.specs.Walk.{walkFrom};
 ghost use Rattle.walk.specs.Reads.{seek, sheetVisit, sheetFrom};
 ghost use Rattle.walk.specs.Code.{Walking, spotOf};
+ghost use Rattle.gathering.specs.Stops.{Within};
 ghost use Rattle.sheet.specs.Answers.{sheetFramed, sheetAnswer, sheetLeaves};
 ghost use Rattle.sheet.specs.Answers.Code.{nothingAt, Gives, Leaves};
 
@@ -43,7 +45,8 @@ fn found_nothing(sight: Sight) -> SheetAnswer
     }
 }
 
-// The second pass: so many records from a cursor on, where the output has room for them, through a stretch of just their length.
+// So many records from a cursor on, where the output has room for them: from what is remembered where that is all of them, and else by a second
+// walk, through a stretch of just their length.
 fn write_counted(
     t: &[u8],
     x: &[u8],
@@ -53,17 +56,24 @@ fn write_counted(
     counts: &[u16],
     starts: &[usize],
     from: Cursor,
+    ats: &[usize],
+    held: usize,
     count: usize,
     out: &mut [u8],
 ) -> SheetAnswer
     requires { ⌜ Walking (now t) (now x) h d n (now counts) ⌝ }
     requires { ⌜ Starts (now t) (now starts) ⌝ }
     requires { ⌜ (from .segment .0 < n) × (from .selector ≤ d) × (count ≤ 256 * n) ⌝ }
-    ensures { λ r. ⌜ Leaves (now (t .entry)) (now (x .entry)) (spotOf from) count (now (out .entry)) (now (out .exit)) r ⌝ }
+    requires { ⌜ (held ≤ length (now ats)) × Within (now t) (take held (now ats)) ⌝ }
+    ensures { λ r. ⌜ Leaves (now (t .entry)) (now (x .entry)) (spotOf from) (now (ats .entry)) held count (now (out .entry)) (now (out .exit)) r ⌝ }
 {
     let k = 24 * count;
     let room = out.len();
     if k <= room {
+        if held == count {
+            put_all(t, ats, held, 0, out);
+            return SheetAnswer::Listed(count as u64);
+        }
         page_from(t, x, h, d, n, counts, starts, from, &mut out[..k]);
         return SheetAnswer::Listed(count as u64);
     }
@@ -88,12 +98,16 @@ fn list_from(
     requires { ⌜ (from .segment .0 < n) × (from .selector ≤ d) ⌝ }
     ensures { λ r. ⌜ Gives (walkFrom (now (t .entry)) (now (x .entry)) (sheetVisit (now (t .entry)) high) (spotOf from) []) (now (out .entry)) (now (out .exit)) r ⌝ }
 {
-    let counted = count_from(t, x, h, d, n, counts, starts, from, high);
+    // As many as a common sheet has, and few enough to be cleared at each call.
+    let mut ats = [0usize; 512];
+    let counted = count_from(t, x, h, d, n, counts, starts, from, high, &mut ats);
     let stop = counted.stop;
+    let held = counted.held;
+    let count = counted.count;
     match stop {
         Stop::Lost(g, s) => SheetAnswer::Refused(Refusal::Lost(g, s)),
-        Stop::More => write_counted(t, x, h, d, n, counts, starts, from, counted.count, out),
-        Stop::End => write_counted(t, x, h, d, n, counts, starts, from, counted.count, out),
+        Stop::More => write_counted(t, x, h, d, n, counts, starts, from, &ats, held, count, out),
+        Stop::End => write_counted(t, x, h, d, n, counts, starts, from, &ats, held, count, out),
     }
 }
 

@@ -5,14 +5,14 @@
 --     walk-stops                                          a walk whose visitor passes marked records comes to these stops, and goes on or is lost
 --     record-part, record-run                             a record in a part of the tray, and in its run
 --     Right, stops-right                                  each stop is unmarked, and its record is the one at its position, inside the tray
---     within-none, within-at, within-append, within-stops, gathered-within     positions inside the tray
+--     within-none, within-at, within-take, within-append, within-stops, gathered-within     positions inside the tray
 -- Assumes nothing.
 use mathlib.Core.Path.{_≡_, refl, sym, ap, _∙_, subst}
 use Prim.Native.Nat.{ℕ, zero, suc, _+_, _-_, _*_, _≤_, _<_}
 use native.Mathlib.Omega.{arith}
 use mathlib.Core.Bool.{Bool, true, false, cond}
 use mathlib.Core.List.{List, [], _∷_, _++_, map}
-use lib.ListN.{length, getD, take, drop}
+use lib.ListN.{length, getD, take, drop, length-take}
 use lib.Seq.{getD-take, getD-drop, length-take-le}
 use lib.Dec.{eqb, ltb}
 use borrow.Author.Tests.{eqb-true, eqb-false, eq-eqb, ne-eqb, ltb-true, lt-ltb, le-ltb}
@@ -179,6 +179,16 @@ within-at {t} ats k w i l m =
     let long : length (take k ats) ≡ k = length-take-le k ats m in
     let there = w .ends i (omega arith) in
     subst (λ (a : ℕ). a + 25 ≤ length t) (getD-take k ats i 0 l) there
+
+pub within-take : {t : List ℕ} (m k : ℕ) (ats : List ℕ) → m ≤ k → Within t (take k ats) → Within t (take m ats)
+within-take {t} m k ats l w =
+    record {
+      ends = λ i b.
+          let less : length (take m ats) ≤ m = omega (arith, length-take m ats) in
+          let long : length (take m ats) ≤ length (take k ats) = omega (arith, length-take m ats, length-take k ats) in
+          let there = w .ends i (omega arith) in
+          subst (λ (a : ℕ). a + 25 ≤ length t) (getD-take k ats i 0 (omega arith) ∙ sym (getD-take m ats i 0 (omega arith))) there;
+    }
 
 pub within-append : {t : List ℕ} (cs bs : List ℕ) → Within t cs → Within t bs → Within t (cs ++ bs)
 within-append {t} cs bs a b = record { ends = λ i l. by cs a i l }

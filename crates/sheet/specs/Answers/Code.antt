@@ -1,6 +1,6 @@
 -- What the code of sheet needs of its answer.
 --     nothingAt, left, Gives, Leaves         what the code's parts answer, and leave in the output
---     leaves-short, leaves-written           the second pass
+--     leaves-short, leaves-written, leaves-held     what is written: nothing, by a second walk, from what is remembered
 --     gives-lost, gives-bound, gives-end     both passes
 --     gives-none, gives-past, gives-found    after the seek
 --     framed-none, framed-long, framed-last, framed-gives     the prefix
@@ -10,7 +10,7 @@ use Prim.Native.Nat.{ℕ, _+_, _-_, _*_, _≤_, _<_}
 use native.Mathlib.Nat.{zero-add}
 use native.Mathlib.Omega.{arith}
 use mathlib.Core.Bool.{Bool, true, cond}
-use mathlib.Core.List.{List, [], _++_}
+use mathlib.Core.List.{List, [], _++_, map}
 use lib.ListN.{length, getD, take, drop}
 use lib.Seq.{length-take-le}
 use borrow.Author.Tests.{eq-eqb, ne-eqb, le-leb, lt-leb}
@@ -20,14 +20,14 @@ use Rattle.theory.specs.Records.{Record}
 use Rattle.tray.specs.declared.Place.{Place}
 use Rattle.tray.specs.declared.RunNo.{RunNo}
 use Rattle.tray.specs.Frame.{runBytes}
-use Rattle.tray.specs.Run.{recordAt}
+use Rattle.tray.specs.Run.{recordFrom, recordAt}
 use Rattle.walk.specs.declared.cursor.Sight.{Sight}
 use Rattle.walk.specs.declared.cursor.Sight.the-variants.{Found as SightFound, End as SightEnd, Lost as SightLost}
 use Rattle.walk.specs.declared.cursor.Sought.{Sought}
 use Rattle.walk.specs.Start.{start}
 use Rattle.walk.specs.Walk.{Spot, stay, Walked, stayed, lost, walkFrom, walkSegments}
 use Rattle.walk.specs.Reads.{Found, unmarked, recordBy, lowKey, highKey, seekVisit, seek, pageVisit, sheetVisit, sheetFrom, sheet}
-use Rattle.walk.specs.Reads.Page.{listing, length-listing}
+use Rattle.walk.specs.Reads.Page.{listing, written, length-listing}
 use Rattle.walk.specs.Reads.Sheet.{Lists}
 use Rattle.walk.specs.Reads.Sheet.Lists.{to-bound, to-end}
 use Rattle.walk.specs.Code.{Walking, spotOf, soughtAs, soughtOf}
@@ -39,9 +39,10 @@ use Rattle.listing.specs.declared.page.Stop.the-variants.{More, End, Lost as St
 use Rattle.listing.specs.declared.page.Paged.{Paged}
 use Rattle.counting.specs.declared.Counted.{Counted}
 use Rattle.listing.specs.Page.{begun, pagedOf}
-use Rattle.counting.specs.Count.{lengths, countedAs, countedOf}
-use Rattle.counting.specs.Count.Code.{counted-stayed, counted-ended, counted-lost}
-use Rattle.counting.specs.Second.{second-listed}
+use Rattle.listing.specs.Put.{putAll}
+use Rattle.listing.specs.Put.Laws.{putAll-written}
+use Rattle.counting.specs.Count.{countedAs, Counts}
+use Rattle.counting.specs.Second.{second-listed, written-out}
 use Rattle.sheet.specs.declared.calls.SheetAnswer.{SheetAnswer}
 use Rattle.sheet.specs.declared.calls.SheetAnswer.the-variants.{Listed, Refused}
 use Rattle.sheet.specs.Answers.{prefixLong, prefixLast, listedIn, sheetTold, recordsOf, sheetFramed, sheetLeaves}
@@ -62,9 +63,9 @@ pub record Gives (w : Walked (List Record) (List Record)) (out after : List ℕ)
   pub answer : r ≡ sheetTold (length out) w
   pub leaves : after ≡ left w out r
 
--- the second pass: so it is for the walk to any bound where so many records are listed
-pub record Leaves (t x : List ℕ) (c : Spot) (count : ℕ) (out after : List ℕ) (r : SheetAnswer) : Type 0 where
-  pub of : (high : ℕ) (es : List Record) → Lists (walkFrom t x (sheetVisit t high) c []) es → length es ≡ count
+-- what is written: so it is for the walk to any bound where so many records are listed, and where all are remembered they are these
+pub record Leaves (t x : List ℕ) (c : Spot) (ats : List ℕ) (held count : ℕ) (out after : List ℕ) (r : SheetAnswer) : Type 0 where
+  pub of : (high : ℕ) (es : List Record) → Lists (walkFrom t x (sheetVisit t high) c []) es → length es ≡ count → (held ≡ count → es ≡ map (recordFrom t) (take held ats))
       → Gives (walkFrom t x (sheetVisit t high) c []) out after r
 
 -- a walk that came through, as told
@@ -91,20 +92,20 @@ put-front : (out : List ℕ) (es : List Record) (k : ℕ) → k ≡ 24 * length 
 unfolding put
 put-front out es k e = ap (λ (m : ℕ). listing es ++ drop m out) (e ∙ sym (zero-add (length (listing es)) ∙ length-listing es))
 
-module _ (t x : List ℕ) (c : Spot) (out : List ℕ) {count : ℕ} where
+module _ (t x : List ℕ) (c : Spot) (ats : List ℕ) (held : ℕ) (out : List ℕ) {count : ℕ} where
   -- too little room: nothing is written
-  pub leaves-short : length out < 24 * count → Leaves t x c count out out (Refused (Room (24 * count)))
+  pub leaves-short : length out < 24 * count → Leaves t x c ats held count out out (Refused (Room (24 * count)))
   unfolding left
   leaves-short l =
-      record { of = λ high es first q. record { answer = listed-short (length out) es q l ∙ told-listed (length out) first; leaves = refl } }
+      record { of = λ high es first q _. record { answer = listed-short (length out) es q l ∙ told-listed (length out) first; leaves = refl } }
 
   -- a page through a front of just their length writes these records
   pub leaves-written : (p : Paged) (ys : List ℕ) {k : ℕ} → k ≡ 24 * count → k ≤ length out
-      → pagedOf p ys ≡ walkFrom t x (pageVisit t) c (begun (take k out)) → Leaves t x c count out (ys ++ drop k out) (Listed count)
+      → pagedOf p ys ≡ walkFrom t x (pageVisit t) c (begun (take k out)) → Leaves t x c ats held count out (ys ++ drop k out) (Listed count)
   unfolding left
   leaves-written p ys {k} e l page =
       record {
-        of = λ high es first q.
+        of = λ high es first q _.
             let long : length (take k out) ≡ k = length-take-le k out l in
             let whole : k ≡ 24 * length es = omega arith in
             record {
@@ -116,34 +117,47 @@ module _ (t x : List ℕ) (c : Spot) (out : List ℕ) {count : ℕ} where
             };
       }
 
+  -- and so do the records that are remembered
+  pub leaves-held : {after : List ℕ} → held ≡ count → 24 * count ≤ length out → after ≡ putAll t (take held ats) 0 out → Leaves t x c ats held count out after (Listed count)
+  unfolding left
+  leaves-held {after} e l wrote =
+      record {
+        of = λ high es first q whole.
+            record {
+              answer = listed-fits (length out) es q l ∙ told-listed (length out) first;
+              leaves =
+                  wrote
+                  ∙ putAll-written t (take held ats) out
+                  ∙ ap (λ (fs : List Record). written fs out .out) (sym (whole e) ∙ sym (records-of first))
+                  ∙ written-out (recordsOf (walkFrom t x (sheetVisit t high) c [])) out;
+            };
+      }
+
 -- both passes
-module _ (t x : List ℕ) (high : ℕ) (c : Spot) (q : Counted) (h : countedOf q ≡ lengths (walkFrom t x (sheetVisit t high) c [])) where
-  walk : Walked (List Record) (List Record)
+module _ (t x : List ℕ) (high : ℕ) (c : Spot) (q : Counted) {ats : List ℕ} (h : Counts t (walkFrom t x (sheetVisit t high) c []) q ats) where
+  abbrev walk : Walked (List Record) (List Record)
   walk = walkFrom t x (sheetVisit t high) c []
 
-  told : {s : Stop} → q .stop ≡ s → countedAs s (q .count) ≡ lengths walk
-  unfolding countedOf walk
-  told e = sym (ap (λ (s : Stop). countedAs s (q .count)) e) ∙ h
+  told : {s : Stop} → q .stop ≡ s → countedAs s (h .records) ≡ walk
+  told e = sym (ap (λ (s : Stop). countedAs s (h .records)) e) ∙ h .same
 
   -- the first is lost,
   pub gives-lost : (out : List ℕ) {g s : ℕ} → q .stop ≡ StopLost g s → Gives (walkFrom t x (sheetVisit t high) c []) out out (Refused (Lost g s))
-  unfolding countedAs sheetTold left walk
-  gives-lost out e = let z = counted-lost walk (told e) in record { answer = sym (ap (sheetTold (length out)) (z .1)); leaves = refl }
+  unfolding countedAs sheetTold left
+  gives-lost out e = record { answer = ap (sheetTold (length out)) (told e); leaves = refl }
 
-  module _ {out after : List ℕ} {r : SheetAnswer} (second : Leaves t x c (q .count) out after r) where
+  module _ {out after : List ℕ} {r : SheetAnswer} (second : Leaves t x c ats (q .held) (q .count) out after r) where
     -- comes to its bound,
     pub gives-bound : q .stop ≡ More → Gives (walkFrom t x (sheetVisit t high) c []) out after r
-    unfolding countedAs walk
+    unfolding countedAs
     gives-bound e =
-        let z = counted-stayed walk (told e) in
-        second .of high (z .0) (subst (λ (v : Walked (List Record) (List Record)). Lists v (z .0)) (sym (z .1)) to-bound) (z .2)
+        second .of high (h .records) (subst (λ (v : Walked (List Record) (List Record)). Lists v (h .records)) (told e) to-bound) (h .many) (h .whole)
 
     -- or to the end
     pub gives-end : q .stop ≡ End → Gives (walkFrom t x (sheetVisit t high) c []) out after r
-    unfolding countedAs walk
+    unfolding countedAs
     gives-end e =
-        let z = counted-ended walk (told e) in
-        second .of high (z .0) (subst (λ (v : Walked (List Record) (List Record)). Lists v (z .0)) (sym (z .1)) to-end) (z .2)
+        second .of high (h .records) (subst (λ (v : Walked (List Record) (List Record)). Lists v (h .records)) (told e) to-end) (h .many) (h .whole)
 
 -- no record needs no room,
 none-listed : (room : ℕ) → Listed 0 ≡ listedIn room []

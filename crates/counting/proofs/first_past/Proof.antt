@@ -1,0 +1,75 @@
+-- `counting::first_past` meets its contract. Invariant: all keys before this one are below the bound. Measure: the records left. Assumes
+-- nothing.
+use mathlib.Core.Path.{refl}
+use Prim.Native.Nat.{_-_}
+use Rattle.gathering.specs.Stops.Laws.{within-at}
+use Rattle.listing.specs.Put.Code.{part-long}
+use Rattle.counting.specs.Count.Code.{Seeking, seeking-first, seeking-more, past-here, past-end}
+use native.Mathlib.Omega.{arith}
+use Rattle.counting.proofs.first_past.Statement.{statement}
+use Rattle.counting.proofs.first_past.Tie as tie
+
+abbrev Inv-loop : tie.InvT-loop
+Inv-loop t ats from to high i₀ i = Seeking t ats from to high i
+
+abbrev μ-loop : tie.MeasureT-loop
+μ-loop t ats from to high i₀ i = to - i
+
+loop-holds : tie.Need-loop-holds Inv-loop μ-loop
+loop-holds c = seeking-first _ _ _ (c .before .before .pre .1 .0)
+
+mul-a : tie.Need-mul-a Inv-loop μ-loop
+mul-a c = omega (arith, c .loop-test .taken, c .before .before .before .before .pre .1 .1, c .before .before .before .before .good .1 .0 .0)
+
+shared-slice-read-a : tie.Need-shared-slice-read-a Inv-loop μ-loop
+shared-slice-read-a c = omega (arith, c .before .loop-test .taken, c .before .before .before .before .before .pre .1 .1)
+
+add-key-at : tie.Need-add-key-at Inv-loop μ-loop
+add-key-at c = omega (arith, within-at _ _ (c .before .before .before .before .before .pre .0) _ (c .before .loop-test .taken) (c .before .before .before .before .before .pre .1 .1), c .before .before .before .before .before .good .0 .0)
+
+sub-key-at : tie.Need-sub-key-at Inv-loop μ-loop
+sub-key-at c = omega arith
+
+part-key-at-start : tie.Need-part-key-at-start Inv-loop μ-loop
+part-key-at-start c = omega arith
+
+part-key-at-end : tie.Need-part-key-at-end Inv-loop μ-loop
+part-key-at-end c = omega (arith, within-at _ _ (c .before .before .before .before .before .pre .0) _ (c .before .loop-test .taken) (c .before .before .before .before .before .pre .1 .1))
+
+key-at-requires : tie.Need-key-at-requires Inv-loop μ-loop
+key-at-requires c κs = part-long _ _ refl (within-at _ _ (c .before .before .before .before .before .before .pre .0) _ (c .before .before .loop-test .taken) (c .before .before .before .before .before .before .pre .1 .1))
+
+returns : tie.Need-returns Inv-loop μ-loop
+returns c = past-here (c .before .before .before .before .before .loop .inv) (c .before .before .before .before .loop-test .taken) refl (c .before .key-at .ensures) (c .if1 .taken)
+
+add-i : tie.Need-add-i Inv-loop μ-loop
+add-i c = omega arith
+
+loop-less : tie.Need-loop-less Inv-loop μ-loop
+loop-less c = omega arith
+
+loop-again : tie.Need-loop-again Inv-loop μ-loop
+loop-again c = seeking-more (c .before .before .before .before .before .loop .inv) (c .before .before .before .before .loop-test .taken) refl (c .before .key-at .ensures) (c .if1 .left)
+
+returns-2 : tie.Need-returns-2 Inv-loop μ-loop
+returns-2 c = past-end (c .before .loop .inv) (c .loop-test .left)
+
+pub first-past-spec : {M : Type 1} → statement M
+first-past-spec =
+    tie.close
+    (tie.spec
+    Inv-loop
+    μ-loop
+    loop-holds
+    mul-a
+    shared-slice-read-a
+    add-key-at
+    sub-key-at
+    part-key-at-start
+    part-key-at-end
+    key-at-requires
+    returns
+    add-i
+    loop-less
+    loop-again
+    returns-2)
