@@ -6,7 +6,7 @@ mod common;
 use common::{SHAPES, TINY, index as index_of, key, seeded, segments_of, tray as tray_of};
 use kanyorith::answer::Answer;
 use kanyorith::raw::Numbers;
-use kanyorith::samples::{Draw, Rng, cursor, damage, index, key_near, tray};
+use kanyorith::samples::{Draw, Rng, Shape, cursor, damage, index, key_near, tray};
 use kanyorith::{compare, naive};
 
 /// The cursor from which everything is read.
@@ -111,6 +111,32 @@ fn sheet_gives_the_merge() {
             }
         }
     }
+}
+
+/// Sheets of some hundred records, around the 512 that sheet can remember and up to three times as many: in room for all of them, in a byte
+/// less, and through an index that is damaged anywhere in them.
+#[test]
+fn sheets_remembered_or_not_give_the_merge() {
+    let mut rng = seeded(312);
+    let (mut short, mut long) = (0, 0);
+    for _ in 0..400 {
+        let records = 100 + rng.below(500);
+        let shape = Shape { runs: 4, records, keys: 3 * records, gone: 5, empty: 0 };
+        let tray = tray(&mut rng, &shape);
+        let mut index = index(&mut rng, &tray);
+        let expected = naive::visible(&tray);
+        let need = 24 * expected.len();
+        let listed = compare::sheet(&tray, &index, &[0], need);
+        assert_eq!(listed.answer, Answer::ok(expected.len() as u64));
+        assert_eq!(listed.out, expected.as_flattened());
+        if need > 0 {
+            assert_eq!(compare::sheet(&tray, &index, &[0], need - 1).answer, Answer::refused(7, need as u64));
+        }
+        damage(&mut rng, &mut index);
+        compare::sheet(&tray, &index, &[0], need);
+        if expected.len() <= 512 { short += 1 } else { long += 1 }
+    }
+    assert!(short > 50 && long > 50, "{short} sheets of at most 512 records, {long} of more");
 }
 
 /// Pages and sheets in every room from 0 to past the need.
