@@ -152,8 +152,6 @@ Get, seek and next are asked for 1,000 keys in no order, sheet for 64 sheets in 
 
 Where the library is the slower one by more than a tenth, and why:
 
-- **sheet**: it walks twice, counting and then writing, since it writes nothing before it is sure; by hand the records are remembered in the
-  first walk. Remembering some 1,000 of them in an array would save the second walk.
 - **build at H = 1**: what is kept of a block of eight runs is renewed after each record, also where there is one run only.
 - **check tray at H = 1**: not looked into; it is under 3 ns a record everywhere.
 
