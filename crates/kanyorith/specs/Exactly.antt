@@ -38,7 +38,8 @@ use Rattle.built.specs.declared.BuildAnswer.{BuildAnswer}
 use Rattle.built.specs.declared.BuildAnswer.the-variants.{Written as BuildWritten, Refused as BuildRefused}
 use Rattle.built.specs.Build.{build}
 use Rattle.built.specs.Build.Theorems.{SizeFits}
-use Rattle.built.specs.Build.Answers.{WrongKeyAt, WrongKindAt, Builds, When, build-says}
+use Rattle.tray.specs.Check.Theorems.{WrongKeyAt, WrongKindAt}
+use Rattle.built.specs.Build.Answers.{Builds, When, build-says}
 use Rattle.folded.specs.declared.FoldAnswer.{FoldAnswer}
 use Rattle.folded.specs.declared.FoldAnswer.the-variants.{Written as FoldWritten, Refused as FoldRefused}
 use Rattle.folded.specs.Fold.{foldedRun, foldSize, foldAnswer}

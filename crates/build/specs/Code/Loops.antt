@@ -13,7 +13,7 @@ use mathlib.Core.List.{List, [], _∷_, _++_, List·Memᴰ·head}
 use lib.ListN.{length, take, drop, replicate, length-append, length-drop, length-replicate, getD-replicate}
 use lib.Seq.{drop-drop, length-take-le}
 use Rattle.number.specs.Big.{put, Bytes}
-use Rattle.number.specs.Big.Writes.{put-put, length-put}
+use Rattle.number.specs.Big.Writes.{put-put, put-nil, length-put}
 use Rattle.theory.specs.View.{view}
 use Rattle.theory.specs.Pack.{joined, groups, pack}
 use Rattle.theory.specs.Pack.Groups.{groups-joined, groups-full}
@@ -35,7 +35,6 @@ use Rattle.built.specs.Build.Bytes.{length-segmentBytes}
 use Rattle.built.specs.Build.Theorems.{sound-ready}
 use Rattle.heads.specs.Heads.{highest, Padded}
 use Rattle.records.specs.Code.{Segmented, Sounded}
-use Rattle.records.specs.Code.Writes.{put-nil}
 use Rattle.records.specs.Code.Merge.{Stand}
 use Rattle.build.specs.Code.Segments.{Cutting, segment-is}
 

@@ -22,12 +22,11 @@ use Rattle.refusal.specs.declared.Refusal.{Refusal}
 use Rattle.refusal.specs.declared.Refusal.the-variants.{TrayFrame, KeyOrder, RecordKind, IndexFrame, Segment, SegmentSize, Room, Bounds, PrefixEnd, Lost, Cursor, RunLength}
 use Rattle.theory.specs.Tests.{split, cases, clash, and-true, and-left, and-right}
 use Rattle.tray.specs.declared.check.TrayAnswer.{TrayAnswer}
-use Rattle.tray.specs.Frame.{runCount, recordsBefore, runBytes, Framed, framed}
+use Rattle.tray.specs.Frame.{runCount, recordsBefore, Framed, framed}
 use Rattle.tray.specs.Frame.Laws.{framed-fits, fits-framed}
-use Rattle.tray.specs.Run.{recordAt, kindWrong, keyWrong}
 use Rattle.tray.specs.Check.{checkTray, Sound, Says, refused-1, refused-2, refused-3, records}
 use Rattle.tray.specs.Check.Laws.{says}
-use Rattle.tray.specs.Check.Theorems.{First, answers-records, refuses-2, refuses-3}
+use Rattle.tray.specs.Check.Theorems.{WrongKeyAt, WrongKindAt, answers-records, refuses-2, refuses-3}
 use Rattle.tray.specs.Meaning.{runsOf}
 use Rattle.index.specs.Layout.{segmentsOf, IndexFramed}
 use Rattle.index.specs.Rules.{Accepted}
@@ -48,14 +47,6 @@ unfolding sizeFits
 fits-size s = and-true (le-leb _ _ (s .least)) (le-leb _ _ (s .most))
 
 module _ (t : List ℕ) where
-  -- 2 of the tray: record n is the first wrong one, its kind is right, and its key is not above the one before it in its run
-  abbrev pub WrongKeyAt : ℕ → Type 0
-  WrongKeyAt n = (r : ℕ) × (p : ℕ) × First t n r p × (kindWrong (recordAt (runBytes t r) p) ≡ false) × (keyWrong (runBytes t r) p ≡ true)
-
-  -- 3 of the tray: record n is the first wrong one: its kind is above 1, or it is gone and has a value
-  abbrev pub WrongKindAt : ℕ → Type 0
-  WrongKindAt n = (r : ℕ) × (p : ℕ) × First t n r p × (kindWrong (recordAt (runBytes t r) p) ≡ true)
-
   -- the tray is sound, D fits it, and its index has n bytes
   pub record Builds (d n : ℕ) : Type 0 where
     pub sound : Sound t
@@ -67,8 +58,8 @@ module _ (t : List ℕ) where
     abbrev pub When : BuildAnswer → Type 0
     When (Refused TrayFrame) = Framed t → ⊥
     When (Refused (SegmentSize n)) = Framed t × (SizeFits (runCount t) d → ⊥) × (n ≡ d)
-    When (Refused (RecordKind n)) = SizeFits (runCount t) d × WrongKindAt n
-    When (Refused (KeyOrder n)) = SizeFits (runCount t) d × WrongKeyAt n
+    When (Refused (RecordKind n)) = SizeFits (runCount t) d × WrongKindAt t n
+    When (Refused (KeyOrder n)) = SizeFits (runCount t) d × WrongKeyAt t n
     When (Refused (Room n)) = Builds d n × (room < n)
     When (Written n) = Builds d n × (n ≤ room)
     When (Refused IndexFrame) = ⊥
@@ -147,11 +138,11 @@ module _ (t : List ℕ) where
     build-refuses-6 n = build-says (Refused (SegmentSize n))
 
     -- 3: a kind above 1, or a gone record with a value
-    pub build-refuses-3 : (n : ℕ) → (build t d room ≡ Refused (RecordKind n)) ↔ (SizeFits (runCount t) d × WrongKindAt n)
+    pub build-refuses-3 : (n : ℕ) → (build t d room ≡ Refused (RecordKind n)) ↔ (SizeFits (runCount t) d × WrongKindAt t n)
     build-refuses-3 n = build-says (Refused (RecordKind n))
 
     -- 2: a key that is not above the one before it in its run
-    pub build-refuses-2 : (n : ℕ) → (build t d room ≡ Refused (KeyOrder n)) ↔ (SizeFits (runCount t) d × WrongKeyAt n)
+    pub build-refuses-2 : (n : ℕ) → (build t d room ≡ Refused (KeyOrder n)) ↔ (SizeFits (runCount t) d × WrongKeyAt t n)
     build-refuses-2 n = build-says (Refused (KeyOrder n))
 
     -- 7: the output is too short

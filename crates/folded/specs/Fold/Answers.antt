@@ -20,20 +20,12 @@ use Rattle.tray.specs.Frame.Laws.{framed-fits, fits-framed}
 use Rattle.tray.specs.Run.{recordAt, kindWrong, keyWrong}
 use Rattle.tray.specs.Check.{checkTray, Sound, Says, refused-1, refused-2, refused-3, records}
 use Rattle.tray.specs.Check.Laws.{says}
-use Rattle.tray.specs.Check.Theorems.{First, answers-records, refuses-2, refuses-3}
+use Rattle.tray.specs.Check.Theorems.{WrongKeyAt, WrongKindAt, answers-records, refuses-2, refuses-3}
 use Rattle.tray.specs.Meaning.{runsOf}
 use Rattle.folded.specs.declared.FoldAnswer.{FoldAnswer}
 use Rattle.folded.specs.declared.FoldAnswer.the-variants.{Written, Refused}
 use Rattle.folded.specs.Fold.{foldedRun, foldSize, boundsHold, afterCheck, foldAnswer}
 use Rattle.folded.specs.Fold.Laws.{InBounds}
-
--- record n is the first wrong one: its kind is right, and its key is not above the one before it in its run;
-abbrev pub KeyFirst : List ℕ → ℕ → Type 0
-KeyFirst t n = (r : ℕ) × (p : ℕ) × First t n r p × (kindWrong (recordAt (runBytes t r) p) ≡ false) × (keyWrong (runBytes t r) p ≡ true)
-
--- or its kind is above 1, or it is gone and has a value
-abbrev pub KindFirst : List ℕ → ℕ → Type 0
-KindFirst t n = (r : ℕ) × (p : ℕ) × First t n r p × (kindWrong (recordAt (runBytes t r) p) ≡ true)
 
 module _ (t : List ℕ) (a b room : ℕ) where
   -- the table; the other numbers are never given
@@ -42,8 +34,8 @@ module _ (t : List ℕ) (a b room : ℕ) where
       Sound t × InBounds t a b × (length (foldedRun a b (runsOf t)) ≤ 4096) × (foldSize a b (runsOf t) ≤ room) × (n ≡ foldSize a b (runsOf t))
   When (Refused TrayFrame) = Framed t → ⊥
   When (Refused (Bounds n)) = Framed t × (b < a ⊎ runCount t ≤ b) × (n ≡ b)
-  When (Refused (RecordKind n)) = InBounds t a b × KindFirst t n
-  When (Refused (KeyOrder n)) = InBounds t a b × KeyFirst t n
+  When (Refused (RecordKind n)) = InBounds t a b × WrongKindAt t n
+  When (Refused (KeyOrder n)) = InBounds t a b × WrongKeyAt t n
   When (Refused (RunLength n)) = Sound t × InBounds t a b × (4096 < n) × (n ≡ length (foldedRun a b (runsOf t)))
   When (Refused (Room n)) =
       Sound t × InBounds t a b × (length (foldedRun a b (runsOf t)) ≤ 4096) × (room < n) × (n ≡ foldSize a b (runsOf t))
@@ -141,12 +133,12 @@ module _ (t : List ℕ) (a b room : ℕ) where
   fold-refuses-8 n = fold-says (Refused (Bounds n))
 
   -- 3: a kind above 1, or a gone record with a value; the figure is the record
-  pub fold-refuses-3 : (n : ℕ) → (foldAnswer t a b room ≡ Refused (RecordKind n)) ↔ (InBounds t a b × KindFirst t n)
+  pub fold-refuses-3 : (n : ℕ) → (foldAnswer t a b room ≡ Refused (RecordKind n)) ↔ (InBounds t a b × WrongKindAt t n)
   unfolding When
   fold-refuses-3 n = fold-says (Refused (RecordKind n))
 
   -- 2: a key that is not above the one before it in its run; the figure is the record
-  pub fold-refuses-2 : (n : ℕ) → (foldAnswer t a b room ≡ Refused (KeyOrder n)) ↔ (InBounds t a b × KeyFirst t n)
+  pub fold-refuses-2 : (n : ℕ) → (foldAnswer t a b room ≡ Refused (KeyOrder n)) ↔ (InBounds t a b × WrongKeyAt t n)
   unfolding When
   fold-refuses-2 n = fold-says (Refused (KeyOrder n))
 

@@ -1,6 +1,5 @@
 -- What the code of digits needs: each law is a way out of a function, or a turn of its loop.
 --     fault, faults, allDigits-faults                     the characters that are no digits, counted
---     put-nil, put-cons                                   nothing written, and one byte more
 --     Filling, filling-none, filling-more, filling-end    bytes written one by one, each by its place
 --     Spelling, spelling-none, spelling-more, spelling-end    bytes written as digits, one by one
 -- Assumes nothing.
@@ -16,7 +15,7 @@ use lib.Seq.{drop-cons}
 use lib.Dec.{eqb, leb}
 use borrow.Author.Tests.{le-leb, lt-leb, ne-eqb}
 use Rattle.number.specs.Big.{put}
-use Rattle.number.specs.Big.Writes.{put-put, put-sets}
+use Rattle.number.specs.Big.Writes.{put-nil, put-cons}
 use Rattle.theory.specs.Tests.{cases}
 use Rattle.theory.specs.Listed.{listed}
 use Rattle.theory.specs.Listed.Laws.{length-listed, listed-same}
@@ -91,16 +90,6 @@ unfolding faults
 counting-end {line} {n} {i} w l =
     let all : n ≡ faults line = omega (arith, w .same, ap faults (drop-of-length-le line {i = i} l)) in
     rw all (allDigits-faults line)
-
--- nothing written, and one byte more
-pub put-nil : (s : List ℕ) (p : ℕ) → put s p [] ≡ s
-unfolding put
-put-nil s p = rw add-zero (take-append-drop p s)
-
-pub put-cons : (s : List ℕ) (p v : ℕ) (ys : List ℕ) → p < length s → put (set s p v) (suc p) ys ≡ put s p (v ∷ ys)
-put-cons s p v ys l =
-    let one : set s p v ≡ put s p (v ∷ []) = put-sets s p (v ∷ []) (omega arith) in
-    rw (one, ← add-one p) (put-put s p (v ∷ []) ys (omega arith))
 
 -- n bytes go to the front of a buffer, f at each place; those from place i on have still to be written
 pub record Filling (f : ℕ → ℕ) (n : ℕ) (out₀ out : List ℕ) (i : ℕ) : Type 0 where

@@ -3,17 +3,19 @@
 --     length-put           the length stays
 --     take-put, drop-put   what stands up to the end of what was written, and behind it
 --     put-put              one write right behind another is one write
+--     put-nil, put-cons    nothing written, and one byte with the rest right behind it
 --     put-halves           so a number may be written in two parts
 --     be-put-in            a number that is read out of what was written
 --     be-put-same          a number whose bytes were written is read back
 --     be-put-before, be-put-after     a number that lies before or behind what was written is as it was
 -- Assumes nothing.
 use mathlib.Core.Path.{_≡_, sym, ap, _∙_}
-use mathlib.Core.List.{List, _++_, append-assoc}
-use Prim.Native.Nat.{ℕ, _+_, _-_, _*_, _/_, _%_, _^_, _≤_, _<_}
+use mathlib.Core.List.{List, [], _∷_, _++_, append-assoc}
+use Prim.Native.Nat.{ℕ, suc, _+_, _-_, _*_, _/_, _%_, _^_, _≤_, _<_}
 use native.Mathlib.Nat.{add-zero, add-assoc, add-sub-of-le, mod-lt, one-le-pow, div-add-mod'}
+use native.Mathlib.Numerals.{add-one}
 use native.Mathlib.Omega.{arith}
-use lib.ListN.{length, take, drop, length-append}
+use lib.ListN.{length, take, drop, set, length-append, take-append-drop}
 use lib.Seq.{length-take-le, sets, sets-eq, length-sets, take-at, drop-at, drop-drop}
 use Rattle.number.specs.Big.{be, bytesOf, put}
 use Rattle.number.specs.Big.Laws.{be-take, be-drop, be-append-left, be-append-right, bytesOf-add, length-bytesOf, be-bytesOf}
@@ -53,6 +55,17 @@ put-put s p xs ys h =
     put-front (put s p xs) (p + length xs) ys
     ∙ rw (take-put s p xs h, ← drop-drop (length ys) (p + length xs) (put s p xs), drop-put s p xs h, drop-drop)
     (simp (put-front, append-assoc, length-append, add-assoc))
+
+-- nothing written,
+pub put-nil : (s : List ℕ) (p : ℕ) → put s p [] ≡ s
+unfolding put
+put-nil s p = rw add-zero (take-append-drop p s)
+
+-- and one byte with the rest right behind it
+pub put-cons : (s : List ℕ) (p v : ℕ) (ys : List ℕ) → p < length s → put (set s p v) (suc p) ys ≡ put s p (v ∷ ys)
+put-cons s p v ys l =
+    let one : set s p v ≡ put s p (v ∷ []) = put-sets s p (v ∷ []) (omega arith) in
+    rw (one, ← add-one p) (put-put s p (v ∷ []) ys (omega arith))
 
 -- a number written in two parts, the higher one first
 pub put-halves : (w v n : ℕ) (s : List ℕ) (p : ℕ) → p ≤ length s

@@ -11,7 +11,7 @@ use lib.Seq.{append-snoc, getD-set-same, getD-set-other}
 use lib.Dec.{eqb, ltb}
 use borrow.Author.Tests.{eqb-true, eqb-false, ltb-true, ltb-false}
 use Rattle.number.specs.Big.{put}
-use Rattle.number.specs.Big.Writes.{put-sets, put-put}
+use Rattle.number.specs.Big.Writes.{put-sets, put-put, put-nil}
 use Rattle.theory.specs.Records.{live}
 use Rattle.theory.specs.Tests.{cases}
 use Rattle.tray.specs.Frame.{runCount}
@@ -23,7 +23,6 @@ use Rattle.index.specs.Scan.Places.{placesOf, raise-placesOf}
 use Rattle.built.specs.Build.{itemKey}
 use Rattle.built.specs.Build.Laws.{Ready}
 use Rattle.records.specs.Code.{spelling, oldMark, Steps, none, more, Selecting}
-use Rattle.records.specs.Code.Writes.{put-nil}
 use Rattle.records.specs.Code.Merge.{Reached, next-first}
 use Rattle.records.specs.Code.Spelled.{marksOn, lastKey, marksOn-snoc, lastKey-snoc, length-marksOn}
 

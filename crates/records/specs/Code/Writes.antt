@@ -1,5 +1,5 @@
 -- What the code of a segment needs of what it writes: each law is a way out of a function, or a turn of its loop.
---     put-nil, put-cons, put-whole, put-before     writing nothing, one byte more, everything, and what stands before
+--     put-whole, put-before     writing everything, and what stands before
 --     offsets-end, offsets-next                    the offsets, run by run
 --     holders-end, holders-next                    the placeholders, byte by byte
 -- Assumes nothing.
@@ -13,21 +13,11 @@ use lib.ListN.{length, getD, take, drop, set, replicate, take-append-drop, lengt
 use lib.Seq.{drop-at, length-take-le}
 use Rattle.number.specs.Big.{bytesOf, put}
 use Rattle.number.specs.Big.Laws.{length-bytesOf}
-use Rattle.number.specs.Big.Writes.{put-sets, put-put}
+use Rattle.number.specs.Big.Writes.{put-sets, put-put, put-nil, put-cons}
 use Rattle.theory.specs.Pack.{joined}
 use Rattle.theory.specs.Listed.{listed}
 use Rattle.heads.specs.Heads.Leads.{LeastKey}
 use Rattle.records.specs.Code.{offsetsFrom, otherKey, Fills, Segmented}
-
-pub put-nil : (s : List ℕ) (p : ℕ) → put s p [] ≡ s
-unfolding put
-put-nil s p = rw add-zero (take-append-drop p s)
-
--- one byte, and the rest right behind it
-pub put-cons : (s : List ℕ) (p v : ℕ) (ys : List ℕ) → p < length s → put (set s p v) (suc p) ys ≡ put s p (v ∷ ys)
-put-cons s p v ys l =
-    let one : set s p v ≡ put s p (v ∷ []) = put-sets s p (v ∷ []) (omega arith) in
-    rw (one, ← add-one p) (put-put s p (v ∷ []) ys (omega arith))
 
 -- everything
 pub put-whole : (s ys : List ℕ) → length s ≡ length ys → put s 0 ys ≡ ys

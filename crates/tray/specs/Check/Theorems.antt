@@ -20,6 +20,14 @@ module _ (t : List ℕ) where
     pub numbered : Numbered t n r p
     pub before : RightBefore t n
 
+  -- record n is the first wrong one, its kind is right, and its key is not above the one before it in its run
+  abbrev pub WrongKeyAt : ℕ → Type 0
+  WrongKeyAt n = (r : ℕ) × (p : ℕ) × First n r p × (kindWrong (recordAt (runBytes t r) p) ≡ false) × (keyWrong (runBytes t r) p ≡ true)
+
+  -- record n is the first wrong one: its kind is above 1, or it is gone and has a value
+  abbrev pub WrongKindAt : ℕ → Type 0
+  WrongKindAt n = (r : ℕ) × (p : ℕ) × First n r p × (kindWrong (recordAt (runBytes t r) p) ≡ true)
+
   -- without a refusal check tray answers the records, and that exactly when the tray is sound
   pub answers-records : (n : ℕ) → (checkTray t ≡ Records n) ↔ (Sound t × (n ≡ recordsBefore t (runCount t)))
   answers-records n = (λ e. from (check-says t (Records n) .0 e) refl, λ s. check-says t (Records n) .1 (subst (λ m. Says t (Records m)) (sym (s .1)) (records (s .0))))
@@ -40,16 +48,14 @@ module _ (t : List ℕ) where
       from (refused-3 m r p f a ra u) e = never (cc)
       from (records s) e = never (cc)
 
-  -- 2: record n is the first wrong one, its kind is right, and its key is not above the one before it in its run
-  pub refuses-2 : (n : ℕ) → (checkTray t ≡ Refused (KeyOrder n))
-      ↔ ((r : ℕ) × (p : ℕ) × First n r p × (kindWrong (recordAt (runBytes t r) p) ≡ false) × (keyWrong (runBytes t r) p ≡ true))
+  -- 2: a key is the first thing wrong
+  pub refuses-2 : (n : ℕ) → (checkTray t ≡ Refused (KeyOrder n)) ↔ WrongKeyAt n
   refuses-2 n = (
     λ e. from (check-says t (Refused (KeyOrder n)) .0 e) refl,
     λ w. check-says t (Refused (KeyOrder n)) .1 (refused-2 n (w .0) (w .1) (w .2 .frame) (w .2 .numbered) (w .2 .before) (w .3) (w .4)),
   )
     where
-      from : {a : TrayAnswer} → Says t a → a ≡ Refused (KeyOrder n)
-          → (r : ℕ) × (p : ℕ) × First n r p × (kindWrong (recordAt (runBytes t r) p) ≡ false) × (keyWrong (runBytes t r) p ≡ true)
+      from : {a : TrayAnswer} → Says t a → a ≡ Refused (KeyOrder n) → WrongKeyAt n
       from (refused-1 x) e = never (cc)
       from (refused-2 m r p f a ra u k) e =
           let z : m ≡ n = cc in
@@ -57,14 +63,14 @@ module _ (t : List ℕ) where
       from (refused-3 m r p f a ra u) e = never (cc)
       from (records s) e = never (cc)
 
-  -- 3: record n is the first wrong one: its kind is above 1, or it is gone and has a value
-  pub refuses-3 : (n : ℕ) → (checkTray t ≡ Refused (RecordKind n)) ↔ ((r : ℕ) × (p : ℕ) × First n r p × (kindWrong (recordAt (runBytes t r) p) ≡ true))
+  -- 3: a kind is
+  pub refuses-3 : (n : ℕ) → (checkTray t ≡ Refused (RecordKind n)) ↔ WrongKindAt n
   refuses-3 n = (
     λ e. from (check-says t (Refused (RecordKind n)) .0 e) refl,
     λ w. check-says t (Refused (RecordKind n)) .1 (refused-3 n (w .0) (w .1) (w .2 .frame) (w .2 .numbered) (w .2 .before) (w .3)),
   )
     where
-      from : {a : TrayAnswer} → Says t a → a ≡ Refused (RecordKind n) → (r : ℕ) × (p : ℕ) × First n r p × (kindWrong (recordAt (runBytes t r) p) ≡ true)
+      from : {a : TrayAnswer} → Says t a → a ≡ Refused (RecordKind n) → WrongKindAt n
       from (refused-1 x) e = never (cc)
       from (refused-2 m r p f a ra u k) e = never (cc)
       from (refused-3 m r p f a ra u) e =
