@@ -78,6 +78,66 @@ fn summary(rows: &[Row]) -> String {
     text
 }
 
+/// The library's times of a call over the trays of `h` runs of 4,096 records, whatever D: the least and the most.
+fn bounds(rows: &[Row], h: usize, call: &str, of: impl Fn(&Row) -> Option<f64>) -> (f64, f64) {
+    let full = rows.iter().filter(|row| row.h == h && row.records == 4096 && row.call == call).filter_map(of);
+    full.fold((f64::MAX, 0f64), |(least, most), value| (least.min(value), most.max(value)))
+}
+
+/// What was aimed at on trays of full runs, and what came of it: an aim is met where the worst of its rows meets it.
+fn aims(rows: &[Row]) -> String {
+    let library = |row: &Row| row.time("library");
+    let rate = |row: &Row| Some(1000.0 / row.time("library")?);
+    let heaps = |row: &Row| Some(row.time("heap")? / row.time("library")?);
+    let mut text = String::from("| Aim | Reached | |\n|---|---|---|\n");
+    let mut line = |aim: &str, (least, most): (f64, f64), unit: &str, met: bool| {
+        let word = if met { "met" } else { "missed" };
+        writeln!(text, "| {aim} | {least:.1} to {most:.1} {unit} | {word} |").expect("a string");
+    };
+    for (call, h, limit) in [
+        ("check tray", 1, 3.0),
+        ("check tray", 8, 3.0),
+        ("check tray", 63, 3.0),
+        ("check index", 1, 8.0),
+        ("check index", 8, 8.0),
+        ("check index", 63, 8.0),
+        ("build", 8, 31.0),
+        ("build", 63, 45.0),
+    ] {
+        let reached = bounds(rows, h, call, library);
+        line(&format!("{call}: at most {limit} ns a record, H {h}"), reached, "ns", reached.1 <= limit);
+    }
+    for (call, limit) in [("page, all in one", 110.0), ("page, 256 records each", 110.0), ("sheet", 60.0)] {
+        let reached = bounds(rows, 63, call, rate);
+        line(&format!("{call}: at least {limit} M records a second, H 63"), reached, "M", reached.0 >= limit);
+    }
+    for call in ["page, all in one", "sheet"] {
+        let reached = bounds(rows, 63, call, heaps);
+        line(&format!("{call}: at least 10 times a heap's speed, H 63"), reached, "times", reached.0 >= 10.0);
+    }
+    let ratio = |row: &Row| Some(row.time("hand")? / row.time("library")?);
+    let slower: Vec<String> = rows
+        .iter()
+        .filter_map(|row| {
+            let size = row.d.map_or(String::new(), |d| format!(", D {d}"));
+            let ratio = ratio(row)?;
+            (ratio < 0.9).then(|| format!("{}, H {}{size} ({ratio:.2})", row.call, row.h))
+        })
+        .collect();
+    let met = if slower.is_empty() { "met" } else { "missed" };
+    let all = rows.iter().filter_map(ratio).fold((f64::MAX, 0f64), |(l, m), r| (l.min(r), m.max(r)));
+    writeln!(
+        text,
+        "| every call: at least 0.9 of the speed of the same rules by hand | {:.2} to {:.2} | {met}{}{} |",
+        all.0,
+        all.1,
+        if slower.is_empty() { "" } else { ": " },
+        slower.join("; "),
+    )
+    .expect("a string");
+    text
+}
+
 /// The model of the processor, as the system names it.
 fn processor() -> String {
     let info = fs::read_to_string("/proc/cpuinfo").unwrap_or_default();
@@ -118,7 +178,7 @@ pub fn write(rows: &[Row], others: f64) -> io::Result<()> {
 }
 
 fn page(rows: &[Row], others: f64) -> String {
-    let (processor, table, summary) = (processor(), table(rows), summary(rows));
+    let (processor, table, summary, aims) = (processor(), table(rows), summary(rows), aims(rows));
     format!(
         "# Benchmarks
 
@@ -150,10 +210,13 @@ The columns:
 
 Get, seek and next are asked for 1,000 keys in no order, sheet for 64 sheets in no order; next has a cursor to test before each move.
 
-Where the library is the slower one by more than a tenth, and why:
+What was aimed at:
 
-- **build at H = 1**: what is kept of a block of eight runs is renewed after each record, also where there is one run only.
-- **check tray at H = 1**: not looked into; it is under 3 ns a record everywhere.
+{aims}
+What stands in the way of an aim that is missed at H 63: a tray of 63 runs of 4,096 records has 6.4 MB, which is more than this processor's
+second cache holds, and a merge or a listing reads it at 63 places in turn, more than the processor foresees. The last rows of the table
+have a tray of 63 runs of 512 records, which fits: so they show what is the call's own, and what is waiting for memory. The hand-written
+rules wait as long.
 
 {table}"
     )
