@@ -12,8 +12,7 @@ ghost use mathlib.Core.Path.{_≡_};
 ghost use Prim.Native.Nat.{_+_, _*_, _-_, _≤_, _<_};
 ghost use lib.ListN.{length};
 ghost use Rattle.tray.specs.Frame.{runCount};
-ghost use Rattle.index.specs.Layout.{headSize};
-ghost use Rattle.index.specs.Scan.{headsAbove, usedUp, offsetsHold, onlyPlaceholders, following, selectorsScan, segmentScan};
+ghost use Rattle.index.specs.Scan.{headsAbove, offsetsHold, onlyPlaceholders, following, selectorsScan, segmentScan};
 ghost use Rattle.index.specs.Scan.Code.{Reading, aboveIn, sameTo, stepOf, beginOf, trailed, told};
 
 // Whether the offsets of the segment at a byte are the places.

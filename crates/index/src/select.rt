@@ -7,7 +7,7 @@ use tray::run::kind_at;
 ghost use mathlib.Core.Path.{_≡_};
 ghost use mathlib.Core.Bool.{cond};
 ghost use Prim.Native.Nat.{_<_};
-ghost use lib.Dec.{eqb, ltb};
+ghost use lib.Dec.{eqb};
 ghost use Rattle.tray.specs.Frame.{runCount, countOf, runBytes, Starts};
 ghost use Rattle.tray.specs.Run.{recordAt};
 ghost use Rattle.index.specs.Scan.{begins, joins};

@@ -6,10 +6,8 @@
 pub mod Narrow
 use mathlib.Core.Path.{_≡_, refl, sym, ap, ap₂, _∙_}
 use Prim.Native.Nat.{ℕ}
-use mathlib.Core.Bool.{true, false, cond}
 use mathlib.Core.List.{List}
 use lib.ListN.{length}
-use lib.Dec.{eqb}
 use borrow.Author.Tests.{eq-eqb, ne-eqb}
 use Rattle.refusal.specs.declared.Refusal.{Refusal}
 use Rattle.refusal.specs.declared.Verdict.{Verdict}
@@ -34,7 +32,7 @@ use Rattle.walk.specs.declared.get.GetAnswer.the-variants.{Found as GetFound, A
 use Rattle.walk.specs.declared.calls.SeekAnswer.{SeekAnswer}
 use Rattle.walk.specs.declared.calls.SeekAnswer.the-variants.{Found, End, Refused}
 use Rattle.walk.specs.declared.calls.Seeks.{Seeks}
-use Rattle.walk.specs.Answers.{getAnswer, seekAnswer}
+use Rattle.walk.specs.Answers.{getAnswer}
 use Rattle.listing.specs.declared.calls.Pages.{Pages}
 use Rattle.listing.specs.declared.calls.PageAnswer.{PageAnswer}
 use Rattle.listing.specs.declared.calls.PageAnswer.the-variants.{More, End as PageEnd, Refused as PageRefused}

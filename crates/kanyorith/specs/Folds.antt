@@ -5,7 +5,6 @@
 --     whole-says                   what folding everything at once says of the length
 -- Assumes nothing.
 use mathlib.Core.Path.{_≡_, refl, sym, ap, _∙_, subst}
-use mathlib.Core.Logic.{_↔_}
 use Prim.Native.Nat.{ℕ, _-_, _≤_, _<_}
 use native.Mathlib.Omega.{arith}
 use mathlib.Core.List.{List}
@@ -14,16 +13,13 @@ use lib.Dec.{leb}
 use borrow.Author.Tests.{leb-true, leb-false}
 use Rattle.number.specs.Big.{Bytes}
 use Rattle.refusal.specs.declared.Verdict.{Verdict}
-use Rattle.refusal.specs.Table.{told}
 use Rattle.theory.specs.Tests.{cases, never}
 use Rattle.tray.specs.Frame.{runCount}
 use Rattle.tray.specs.Check.{checkTray, Sound}
 use Rattle.tray.specs.Check.Theorems.{answers-records}
 use Rattle.tray.specs.Meaning.{runsOf}
-use Rattle.folded.specs.declared.FoldAnswer.the-variants.{Written}
 use Rattle.folded.specs.Fold.{foldedRun, foldAnswer, leaves, Calls, no-call, call}
 use Rattle.folded.specs.Fold.Laws.{InBounds}
-use Rattle.folded.specs.Fold.Chains.{wholeRun, calls-sound, length-never-stops}
 use Rattle.unchanged.specs.Unchanged.{Folded}
 use Rattle.kanyorith.specs.Told.Laws.{tray-zero, index-zero, fold-zero}
 use Rattle.kanyorith.specs.Promises.{CheckTray, Fold}

@@ -1,12 +1,12 @@
 -- The cursor that seek, next or page hands back belongs to the same tray and index, whatever the index says, unless the call is refused.
 --     seek-belongs, next-belongs, page-belongs
 -- Assumes nothing.
-use mathlib.Core.Path.{_≡_, refl, sym, ap, _∙_}
+use mathlib.Core.Path.{_≡_, ap, _∙_}
 use mathlib.Core.Logic.{inl, inr}
 use Prim.Native.Nat.{ℕ}
 use native.Mathlib.Omega.{arith}
 use mathlib.Core.Bool.{true}
-use mathlib.Core.List.{List, map}
+use mathlib.Core.List.{List}
 use lib.ListN.{length, drop, length-drop, length-map}
 use Rattle.refusal.specs.declared.Refusal.{Refusal}
 use Rattle.refusal.specs.Table.{told, verdictOf}
@@ -18,9 +18,8 @@ use Rattle.walk.specs.declared.calls.SeekAnswer.{SeekAnswer}
 use Rattle.walk.specs.declared.calls.SeekAnswer.the-variants.{Refused}
 use Rattle.walk.specs.Reads.{belongs}
 use Rattle.walk.specs.Code.{spotOf}
-use Rattle.walk.specs.Answers.{cursorOf, seekAnswer}
+use Rattle.walk.specs.Answers.{cursorOf}
 use Rattle.walk.specs.Answers.Hands.{Belonging, Hands, seek-hands}
-use Rattle.next.specs.Answers.{nextAnswer}
 use Rattle.next.specs.Answers.Hands.{next-hands}
 use Rattle.listing.specs.declared.calls.PageAnswer.{PageAnswer}
 use Rattle.listing.specs.declared.calls.PageAnswer.the-variants.{Refused as PageRefused}

@@ -4,23 +4,20 @@
 --     page-filled          a page that stays at a record has less than 24 bytes left
 --     listed-behind        sheet leaves its listing in front, and past it what was there
 -- Assumes nothing.
-use mathlib.Core.Path.{_≡_, refl, sym, ap, _∙_, subst}
+use mathlib.Core.Path.{_≡_, refl, sym, ap, _∙_}
 use Prim.Native.Nat.{ℕ, _+_, _*_, _≤_, _<_, zero-le}
 use native.Mathlib.Nat.{zero-add}
 use native.Mathlib.Omega.{arith}
 use mathlib.Core.Bool.{Bool, true, false, cond}
 use mathlib.Core.List.{List}
 use lib.ListN.{length, drop}
-use lib.Dec.{leb}
-use borrow.Author.Tests.{leb-true}
-use Rattle.number.specs.Big.{put}
 use Rattle.number.specs.Big.Writes.{length-put, drop-put}
 use Rattle.refusal.specs.declared.Refusal.{Refusal}
 use Rattle.refusal.specs.declared.Refusal.the-variants.{TrayFrame, IndexFrame, Cursor as NotBelonging}
 use Rattle.refusal.specs.declared.Verdict.{Verdict}
 use Rattle.refusal.specs.Table.{told, verdictOf}
 use Rattle.theory.specs.Records.{Record}
-use Rattle.theory.specs.Tests.{split, cases, never}
+use Rattle.theory.specs.Tests.{never}
 use Rattle.tray.specs.Frame.{runCount, framed}
 use Rattle.index.specs.Layout.{indexFramed}
 use Rattle.walk.specs.declared.cursor.Cursor.{Cursor}
@@ -31,8 +28,6 @@ use Rattle.walk.specs.Code.{spotOf}
 use Rattle.walk.specs.Answers.{inFrames}
 use Rattle.listing.specs.declared.calls.Pages.{Pages}
 use Rattle.listing.specs.Answers.{refusedPage, pageTold as pageBy, pageLeft, pageFramed, leftFramed, pageAnswer, pageLeaves}
-use Rattle.sheet.specs.declared.calls.SheetAnswer.{SheetAnswer}
-use Rattle.sheet.specs.declared.calls.SheetAnswer.the-variants.{Listed, Refused}
 use Rattle.sheet.specs.Answers.{recordsOf, sheetAnswer, sheetLeaves}
 use Rattle.kanyorith.specs.Told.{pageTold, sheetTold}
 use Rattle.kanyorith.specs.Told.Laws.{refused-above, sheet-zero}

@@ -10,28 +10,27 @@
 --     sheet-lists, sheet-is        sheet
 -- Assumes nothing.
 use mathlib.Core.Path.{_≡_, refl, sym, ap, ap₂, _∙_, subst}
-use mathlib.Core.Logic.{⊎-elim, _↔_}
-use Prim.Native.Nat.{ℕ, zero, suc, _+_, _-_, _*_, _/_, _%_, _≤_, _<_}
+use mathlib.Core.Logic.{⊎-elim}
+use Prim.Native.Nat.{ℕ, zero, suc, _+_, _-_, _*_, _≤_, _<_}
 use native.Mathlib.Omega.{arith}
 use native.Mathlib.Nat.{div-add-mod'}
-use mathlib.Core.Bool.{Bool, true, false, cond}
-use mathlib.Core.List.{List, [], _∷_, _++_, map, List·Memᴰ, List·Memᴰ·tail, List·Memᴰ·not-nil, List·Memᴰ·cases-cons, append-assoc, map-append, Memᴰ·append-right}
-use lib.ListN.{length, getD, take, drop, length-drop}
+use mathlib.Core.Bool.{true}
+use mathlib.Core.List.{List, [], _∷_, _++_, map, List·Memᴰ·tail, List·Memᴰ·not-nil, List·Memᴰ·cases-cons, append-assoc, map-append, Memᴰ·append-right}
+use lib.ListN.{length, getD, take, length-drop}
 use lib.Dec.{eqb, leb}
 use borrow.Author.Tests.{eqb-true, eqb-false, ne-eqb, leb-true, leb-false, le-leb}
 use Rattle.number.specs.Big.{be, bytesOf, put}
 use Rattle.refusal.specs.declared.Verdict.{Verdict}
-use Rattle.refusal.specs.Table.{told, verdictOf}
+use Rattle.refusal.specs.Table.{told}
 use Rattle.theory.specs.Lists.{here}
 use Rattle.theory.specs.Records.{Record}
 use Rattle.theory.specs.Rising.{Mem, keep}
 use Rattle.theory.specs.Rising.Kept.{keep-mem}
-use Rattle.theory.specs.Tests.{split, cases, never, clash}
+use Rattle.theory.specs.Tests.{split, never}
 use Rattle.tray.specs.Frame.{runCount, runBytes}
 use Rattle.tray.specs.Run.{recordAt}
 use Rattle.index.specs.Check.{checkIndex}
 use Rattle.walk.specs.declared.get.Gets.{Gets}
-use Rattle.walk.specs.declared.get.GetAnswer.{GetAnswer}
 use Rattle.walk.specs.declared.cursor.Cursor.{Cursor}
 use Rattle.tray.specs.declared.Place.{Place}
 use Rattle.walk.specs.Code.{numbers, spotOf}
@@ -41,23 +40,23 @@ use Rattle.walk.specs.declared.calls.SeekAnswer.{SeekAnswer}
 use Rattle.walk.specs.declared.calls.SeekAnswer.the-variants.{Found, End, Refused}
 use Rattle.walk.specs.Walk.Spots.{Reading, check-reading, Stop, spots}
 use Rattle.walk.specs.Walk.Tours.{firstOf, each-at}
-use Rattle.walk.specs.Reads.{Got, value, absent, get-lost, Found as Sighted, next, Written, page, belongs}
+use Rattle.walk.specs.Reads.{Got, value, absent, Found as Sighted, next, Written, page, belongs}
 use Rattle.walk.specs.Reads.Kept.{keep-append}
-use Rattle.walk.specs.Reads.Shown.{foundAt, pointOf, isShown, shown, Shows, shown-merged}
+use Rattle.walk.specs.Reads.Shown.{foundAt, pointOf, isShown, shown, shown-merged}
 use Rattle.walk.specs.Reads.Next.{next-is, next-spots, next-gap, next-end}
 use Rattle.walk.specs.Reads.From.{from-on}
 use Rattle.walk.specs.Reads.Belongs.{stop-belongs, belongs-standing}
 use Rattle.walk.specs.Reads.Standing.{Standing, at-stop, at-gap, at-end as standing-end, standing-on}
 use Rattle.walk.specs.Reads.Page.{listing, page-is}
 use Rattle.walk.specs.Reads.Pages.{paged-lost, pages-are as paged-are}
-use Rattle.walk.specs.Walk.{Spot, Walked, stayed, ended, lost}
+use Rattle.walk.specs.Walk.{Spot, Walked, ended, lost}
 use Rattle.walk.specs.Reads.Seek.{lookup, points, isFrom, from, seek-is, shown-shows}
 use Rattle.walk.specs.Answers.{cursorOf, gotTold, getAnswer, refusedSeek, seekTold as seekBy, seekFramed, seekAnswer}
 use Rattle.walk.specs.Answers.Hands.{spot-back}
 use Rattle.next.specs.Answers.{refusedNext, nextTold, nextFramed, nextAnswer}
 use Rattle.listing.specs.declared.calls.PageAnswer.{PageAnswer}
 use Rattle.listing.specs.declared.calls.PageAnswer.the-variants.{More, End as PageEnd, Refused as PageRefused}
-use Rattle.listing.specs.Answers.{pageAnswer, pageLeaves}
+use Rattle.listing.specs.Answers.{pageAnswer}
 use Rattle.sheet.specs.declared.calls.SheetAnswer.{SheetAnswer}
 use Rattle.sheet.specs.Answers.{prefixLong, prefixLast, listedIn, sheetAnswer, sheetLeaves}
 use Rattle.unchanged.specs.Paged.{PageCalls, last-page, page-then, calls-pages, pages-from}

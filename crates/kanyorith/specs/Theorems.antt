@@ -31,8 +31,8 @@ use mathlib.Core.Path.{_≡_, refl, sym, ap, ap₂, _∙_, subst}
 use mathlib.Core.Logic.{_↔_}
 use Prim.Native.Nat.{ℕ, suc, _+_, _-_, _*_, _/_, _≤_, _<_}
 use native.Mathlib.Omega.{arith}
-use mathlib.Core.Bool.{Bool, true, false}
-use mathlib.Core.List.{List, [], _∷_, map}
+use mathlib.Core.Bool.{true}
+use mathlib.Core.List.{List, _∷_, map}
 use lib.ListN.{length, getD, take, drop}
 use lib.Dec.{leb}
 use Rattle.number.specs.Big.{be, bytesOf, Bytes}
@@ -48,7 +48,7 @@ use Rattle.tray.specs.Frame.{runCount, countOf, recordsBefore, runBytes}
 use Rattle.tray.specs.Run.{recordAt}
 use Rattle.tray.specs.Meaning.{runsOf}
 use Rattle.tray.specs.Meaning.Laws.{runs-good, length-runsOf}
-use Rattle.tray.specs.Check.{checkTray, Sound}
+use Rattle.tray.specs.Check.{Sound}
 use Rattle.index.specs.Layout.{segmentCount, segmentsOf, IndexFramed}
 use Rattle.index.specs.Rules.{keyOf, Accepted as Follows}
 use Rattle.index.specs.Check.{checkIndex}
@@ -77,8 +77,8 @@ use Rattle.folded.specs.Fold.Laws.{length-foldBytes}
 use Rattle.folded.specs.Fold.Answers.{fold-written}
 use Rattle.folded.specs.Fold.Nothing.{withoutRun, AddsNothing, empty-run, older-copy, same-bytes}
 use Rattle.folded.specs.Fold.Leaves.{leaves-written as fold-leaves-written}
-use Rattle.kanyorith.specs.Promises.{CheckTray, CheckIndex, Build, valueLeft, Get, runLeft, placeLeft, cursorLeft, Sought, Seek, Next, pageCursorLeft, Paging, Page, Sheet, Fold}
-use Rattle.kanyorith.specs.Told.Laws.{index-zero, build-zero, build-above, get-above, seek-above, page-above, sheet-zero, sheet-above, fold-zero, fold-above}
+use Rattle.kanyorith.specs.Promises.{CheckTray, CheckIndex, Build, valueLeft, Get, runLeft, placeLeft, cursorLeft, Sought, Seek, Next, pageCursorLeft, Page, Sheet, Fold}
+use Rattle.kanyorith.specs.Told.Laws.{index-zero, build-zero, build-above, get-above, seek-above, page-above, sheet-above, fold-zero, fold-above}
 use Rattle.kanyorith.specs.Told.{indexTold, getTold, sheetTold, foldTold}
 use Rattle.kanyorith.specs.Reads.{Accepted, reading, Looked, get-looks, Sights, seek-sees, same-sights, Steps, steps-are, Paged, pages-are, Onward, pages-onward, next-never-lost, page-never-lost, Listed, sheet-lists}
 use Rattle.kanyorith.specs.Handed.{seek-belongs, next-belongs, page-belongs}

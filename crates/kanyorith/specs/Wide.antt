@@ -10,21 +10,19 @@
 use mathlib.Core.Path.{_≡_, refl, sym, ap, _∙_, subst}
 use Prim.Native.Nat.{ℕ, _≤_, _<_}
 use native.Mathlib.Omega.{arith}
-use mathlib.Core.Bool.{Bool, true, false, cond, _&&_}
+use mathlib.Core.Bool.{Bool, true, false, cond}
 use mathlib.Core.List.{List}
-use lib.ListN.{length}
-use lib.Dec.{eqb, leb, ltb}
-use borrow.Author.Tests.{leb-true, leb-false, le-leb, lt-leb, ltb-true, lt-ltb}
-use Rattle.refusal.specs.declared.Refusal.{Refusal}
+use lib.Dec.{eqb, leb}
+use borrow.Author.Tests.{leb-true, le-leb, lt-leb, ltb-true, lt-ltb}
 use Rattle.refusal.specs.declared.Refusal.the-variants.{TrayFrame, KeyOrder, RecordKind, IndexFrame, Segment, SegmentSize, Room, Bounds, PrefixEnd, Lost, Cursor, RunLength}
 use Rattle.refusal.specs.declared.Verdict.{Verdict}
-use Rattle.refusal.specs.Table.{told, verdictOf}
+use Rattle.refusal.specs.Table.{told}
 use Rattle.theory.specs.Tests.{split, cases, clash, same-test, and-true, and-left, and-right}
-use Rattle.tray.specs.Frame.{runCount, framed, Framed}
+use Rattle.tray.specs.Frame.{runCount, framed}
 use Rattle.tray.specs.Frame.Laws.{framed-fits}
 use Rattle.built.specs.declared.BuildAnswer.{BuildAnswer}
 use Rattle.built.specs.declared.BuildAnswer.the-variants.{Written as BuildWritten, Refused as BuildRefused}
-use Rattle.built.specs.Build.{sizeFits, afterCheck, build, leaves}
+use Rattle.built.specs.Build.{sizeFits, build, leaves}
 use Rattle.built.specs.Build.Answers.{When, build-says}
 use Rattle.folded.specs.declared.FoldAnswer.{FoldAnswer}
 use Rattle.folded.specs.declared.FoldAnswer.the-variants.{Written as FoldWritten, Refused as FoldRefused}

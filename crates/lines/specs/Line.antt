@@ -8,7 +8,7 @@ mod Cases
 use Prim.Native.Nat.{ℕ, _+_, _%_}
 use mathlib.Core.Bool.{Bool, true, cond, _&&_}
 use mathlib.Core.List.{List, [], _∷_, _++_}
-use lib.ListN.{length, getD, take, drop, replicate}
+use lib.ListN.{length, getD, drop}
 use lib.Dec.{eqb, leb}
 use Rattle.number.specs.Big.{bytesOf}
 use Rattle.refusal.specs.declared.Refusal.{Refusal}

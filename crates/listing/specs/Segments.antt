@@ -3,8 +3,8 @@
 --     paging-on, paging-lost       behind them
 --     BySegments                   the loop over segments
 -- Assumes nothing.
-use mathlib.Core.Path.{_≡_, refl, sym, ap, ap₂, _∙_, subst}
-use Prim.Native.Nat.{ℕ, zero, suc, _+_, _-_, _*_, _/_, _≤_, _<_}
+use mathlib.Core.Path.{_≡_, sym, ap, ap₂, _∙_, subst}
+use Prim.Native.Nat.{ℕ, suc, _+_, _-_, _*_, _≤_, _<_}
 use native.Mathlib.Nat.{add-zero}
 use native.Mathlib.Omega.{arith}
 use mathlib.Core.Bool.{false}
@@ -25,7 +25,6 @@ use Rattle.walk.specs.Walk.Tours.{after, tourThen}
 use Rattle.walk.specs.Reads.{Written, listedBytes, write, unmarked, pageVisit}
 use Rattle.walk.specs.Reads.Page.{length-listed}
 use Rattle.walk.specs.Code.{numbers}
-use Rattle.walk.specs.Code.Turns.{Here}
 use Rattle.gathering.specs.Stops.{Stop, stopsIn, positionOf, GatheredFrom}
 use Rattle.gathering.specs.Stops.Laws.{seenAt, thenOn, then-lost, then-rest, walk-stops, Right, stops-right}
 use Rattle.listing.specs.Steps.{onward}

@@ -13,7 +13,7 @@ use native.Mathlib.Nat.{zero-add, add-zero, add-suc}
 use native.Mathlib.Numerals.{add-one}
 use mathlib.Core.Bool.{Bool, true, false, cond, _&&_, _||_}
 use mathlib.Core.List.{List}
-use lib.ListN.{length, getD, set, replicate, length-set, getD-replicate, List·getD-eq-default}
+use lib.ListN.{length, getD, set, replicate, length-set, getD-replicate}
 use lib.Seq.{ext-getD, getD-set-same, getD-set-other}
 use lib.Dec.{eqb, ltb}
 use borrow.Author.Tests.{eq-eqb, ne-eqb, lt-ltb, le-ltb, eqb-true, eqb-false, ltb-true, ltb-false}
@@ -24,11 +24,11 @@ use Rattle.index.specs.Layout.{headSize, sizeOf, segmentCount, segmentAt, offse
 use Rattle.index.specs.Layout.Code.{segmentAt-next, segmentAt-le}
 use Rattle.index.specs.Layout.Laws.{getD-listed}
 use Rattle.index.specs.Scan.{runIn}
-use Rattle.index.specs.Scan.Code.{sameTo, same-next, same-stop}
+use Rattle.index.specs.Scan.Code.{sameTo, same-next}
 use Rattle.tray.specs.declared.Place.{Place}
 use Rattle.walk.specs.Code.{placed, numbers, getD-numbers, length-numbers}
 use Rattle.walk.specs.Start.Code.{Probing}
-use Rattle.walk.specs.Walk.{Spot, selectorAt}
+use Rattle.walk.specs.Walk.{Spot}
 use Rattle.walk.specs.Reads.{selectorsOf, placesAt, samePlaces, belongs}
 
 -- the first r places are copied as numbers

@@ -9,15 +9,14 @@ use mathlib.Core.Path.{_≡_, refl, sym, ap, ap₂, _∙_, subst}
 use Prim.Native.Nat.{ℕ, suc, _*_}
 use mathlib.Core.Bool.{Bool, true, false, cond}
 use mathlib.Core.List.{List, [], _∷_, _++_, map}
-use lib.ListN.{length, take}
+use lib.ListN.{take}
 use Rattle.number.specs.Big.{be}
 use Rattle.refusal.specs.declared.Refusal.{Refusal}
 use Rattle.refusal.specs.declared.Refusal.the-variants.{Cursor as NotBelonging}
 use Rattle.theory.specs.Rising.{keep}
-use Rattle.theory.specs.Tests.{cases, never}
+use Rattle.theory.specs.Tests.{never}
 use Rattle.tray.specs.Frame.{runCount}
 use Rattle.walk.specs.declared.cursor.Cursor.{Cursor}
-use Rattle.walk.specs.declared.calls.SeekAnswer.the-variants.{Refused as SeekRefused}
 use Rattle.walk.specs.Walk.{Spot, Walked, stayed, ended, lost}
 use Rattle.walk.specs.Walk.Spots.{Reading, Stop, spots}
 use Rattle.walk.specs.Walk.Tours.{firstOf}

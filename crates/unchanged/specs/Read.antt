@@ -6,9 +6,9 @@
 --     onward, onward-are          the visible records from a key on
 --     prefixed, sheet-answers, sheet-records     sheet's answer, and the records that it lists
 -- Assumes nothing.
-use mathlib.Core.Path.{_≡_, refl, sym, ap, _∙_, subst}
+use mathlib.Core.Path.{_≡_, refl, ap, _∙_}
 use Prim.Native.Nat.{ℕ}
-use mathlib.Core.Bool.{Bool, true, cond}
+use mathlib.Core.Bool.{cond}
 use mathlib.Core.List.{List, [], _∷_, map}
 use lib.ListN.{length}
 use lib.Dec.{leb}
@@ -22,15 +22,13 @@ use Rattle.theory.specs.Rising.Kept.{keep-mem}
 use Rattle.tray.specs.Frame.{runCount, runBytes}
 use Rattle.tray.specs.Frame.Laws.{fits-framed}
 use Rattle.tray.specs.Run.{recordAt}
-use Rattle.index.specs.Layout.{indexFramed, IndexFramed}
 use Rattle.index.specs.Layout.Laws.{fits-index}
-use Rattle.walk.specs.declared.get.Gets.{Gets}
 use Rattle.walk.specs.declared.calls.SeekAnswer.{SeekAnswer}
 use Rattle.walk.specs.declared.calls.SeekAnswer.the-variants.{Found, End, Refused}
-use Rattle.walk.specs.Walk.{Walked, stayed, ended}
+use Rattle.walk.specs.Walk.{Walked}
 use Rattle.walk.specs.Walk.Spots.{Reading, Stop}
 use Rattle.walk.specs.Walk.Tours.{firstOf}
-use Rattle.walk.specs.Reads.{get, seek, lowKey, highKey, sheet}
+use Rattle.walk.specs.Reads.{lowKey, highKey, sheet}
 use Rattle.walk.specs.Reads.Kept.{keep-map}
 use Rattle.walk.specs.Reads.Shown.{foundAt, pointOf, shown, Shows, shown-merged}
 use Rattle.walk.specs.Reads.Sheet.{Lists, to-bound, to-end, within, sheet-is}

@@ -8,9 +8,8 @@ use lib.ListN.{replicate}
 use Rattle.number.specs.Big.{be, bytesOf}
 use Rattle.refusal.specs.declared.Refusal.{Refusal}
 use Rattle.refusal.specs.declared.Refusal.the-variants.{TrayFrame, IndexFrame, Lost}
-use Rattle.tray.specs.declared.Place.{Place}
 use Rattle.tray.specs.Frame.{runCount, framed}
-use Rattle.index.specs.Layout.{segmentCount, indexFramed}
+use Rattle.index.specs.Layout.{indexFramed}
 use Rattle.walk.specs.declared.cursor.Cursor.{Cursor}
 use Rattle.walk.specs.declared.cursor.Sight.{Sight}
 use Rattle.walk.specs.declared.cursor.Sight.the-variants.{Found as SightFound, End as SightEnd, Lost as SightLost}

@@ -3,8 +3,6 @@ use index::SegmentNo;
 use index::frame::segment_at;
 use number::big8;
 ghost use mathlib.Core.Path.{_≡_};
-ghost use Rattle.index.specs.Layout.Code.{Laid};
-ghost use Rattle.tray.specs.Frame.{runCount};
 ghost use Rattle.walk.specs.Start.{probe, start};
 ghost use Rattle.walk.specs.Start.Code.{Probing};
 

@@ -14,7 +14,7 @@ use tray::RunNo;
 use tray::frame::TrayFrame;
 use tray::frame::tray_frame;
 ghost use mathlib.Core.Path.{_≡_};
-ghost use Rattle.tray.specs.Frame.{runCount, Opened};
+ghost use Rattle.tray.specs.Frame.{Opened};
 ghost use Rattle.index.specs.Layout.Code.{Laid};
 ghost use Rattle.walk.specs.Answers.{seekAnswer, seekFramed, toldSeek, refusedSeek};
 

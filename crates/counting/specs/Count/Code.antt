@@ -8,10 +8,10 @@
 -- Assumes nothing.
 use mathlib.Core.Path.{_≡_, refl, sym, ap, ap₂, _∙_, subst}
 use Prim.Native.Nat.{ℕ, zero, suc, _+_, _-_, _*_, _≤_, _<_}
-use native.Mathlib.Nat.{zero-add, add-zero}
+use native.Mathlib.Nat.{add-zero}
 use native.Mathlib.Omega.{arith}
 use mathlib.Core.Bool.{false, cond}
-use mathlib.Core.List.{List, [], _∷_, _++_, map, map-append, append-nil, append-assoc}
+use mathlib.Core.List.{List, [], _∷_, _++_, map, map-append, append-nil}
 use lib.ListN.{length, getD, take, drop, length-map, length-append}
 use lib.Seq.{length-take-le, getD-take, getD-append-add, take-take, take-append-add, append-snoc}
 use lib.Dec.{leb}
@@ -32,7 +32,6 @@ use Rattle.walk.specs.Code.Load.{loadedFrom}
 use Rattle.walk.specs.Code.Turns.{Here, here-enter}
 use Rattle.gathering.specs.Stops.{Stop, stopsIn, positionOf, Within, GatheredFrom}
 use Rattle.gathering.specs.Stops.Laws.{seenAt, thenOn, then-lost, then-rest, walk-stops, record-part, Right, stops-right, within-none, within-take, gathered-within}
-use Rattle.listing.specs.declared.page.Stop.{Stop as End}
 use Rattle.listing.specs.Steps.{onward, here-first}
 use Rattle.counting.specs.declared.Counted.{Counted}
 use Rattle.counting.specs.Count.{Past, countedAs, Counts}

@@ -15,9 +15,8 @@ use Rattle.refusal.specs.declared.Refusal.the-variants.{TrayFrame, KeyOrder, Re
 use Rattle.theory.specs.Tests.{split, cases, clash, and-true, and-left, and-right}
 use Rattle.tray.specs.declared.check.TrayAnswer.{TrayAnswer}
 use Rattle.tray.specs.declared.check.TrayAnswer.the-variants.{Records}
-use Rattle.tray.specs.Frame.{runCount, recordsBefore, runBytes, framed, Framed}
+use Rattle.tray.specs.Frame.{runCount, recordsBefore, framed, Framed}
 use Rattle.tray.specs.Frame.Laws.{framed-fits, fits-framed}
-use Rattle.tray.specs.Run.{recordAt, kindWrong, keyWrong}
 use Rattle.tray.specs.Check.{checkTray, Sound, Says, refused-1, refused-2, refused-3, records}
 use Rattle.tray.specs.Check.Laws.{says}
 use Rattle.tray.specs.Check.Theorems.{WrongKeyAt, WrongKindAt, answers-records, refuses-2, refuses-3}

@@ -5,7 +5,7 @@
 --     gathered-no-run, gathered-no-place, gathered-all     its ends
 -- Assumes nothing.
 use mathlib.Core.Path.{_≡_, refl, sym, ap, ap₂, _∙_}
-use Prim.Native.Nat.{ℕ, zero, suc, _+_, _-_, _*_, _/_, _%_, _≤_, _<_}
+use Prim.Native.Nat.{ℕ, suc, _+_, _-_, _*_, _/_, _%_, _≤_, _<_}
 use native.Mathlib.Nat.{add-zero}
 use native.Mathlib.Numerals.{add-one}
 use native.Mathlib.Omega.{arith}
@@ -23,7 +23,7 @@ use Rattle.walk.specs.Walk.{selectorAt, named}
 use Rattle.walk.specs.Reads.{unmarked}
 use Rattle.walk.specs.Code.{placed, numbers, raise-numbers, Walking}
 use Rattle.walk.specs.Code.Turns.{named-run, named-yes, named-past, place-is}
-use Rattle.gathering.specs.Stops.{Stop, stopsIn, stopIn, positionOf, positions, GatheredFrom}
+use Rattle.gathering.specs.Stops.{stopsIn, stopIn, positionOf, positions, GatheredFrom}
 use Rattle.gathering.specs.Stops.Laws.{stopAt, stops-pass, stops-name, stops-marked, stops-lost, stop-pass, stop-name, stop-lost}
 
 -- a selector with neither mark is 1, any other 0

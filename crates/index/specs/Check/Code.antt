@@ -5,14 +5,13 @@
 --     judged-frame, judged-wrong         the frame decides
 --     checked-tray, checked-index, records-opened    the tray decides first
 -- Assumes nothing.
-use mathlib.Core.Path.{_≡_, refl, sym, ap, _∙_, subst}
+use mathlib.Core.Path.{_≡_, refl, sym, ap, _∙_}
 use Prim.Native.Nat.{ℕ, zero, suc, _+_, _-_, _≤_, _<_}
 use native.Mathlib.Omega.{arith}
 use native.Mathlib.Nat.{sub-zero}
-use mathlib.Core.Bool.{Bool, true, false, cond, _&&_}
+use mathlib.Core.Bool.{Bool, true, false, cond}
 use mathlib.Core.List.{List}
 use lib.ListN.{length, getD, replicate}
-use lib.Dec.{eqb}
 use Rattle.refusal.specs.declared.Refusal.{Refusal}
 use Rattle.refusal.specs.declared.Refusal.the-variants.{IndexFrame, Segment}
 use Rattle.theory.specs.Tests.{never}
@@ -28,7 +27,7 @@ use Rattle.index.specs.declared.frame.IndexFrame.the-variants.{Fits, Wro
 use Rattle.index.specs.declared.check.IndexAnswer.{IndexAnswer}
 use Rattle.index.specs.declared.check.IndexAnswer.the-variants.{Segments, Refused}
 use Rattle.index.specs.Layout.{sizeOf, segmentCount, segmentAt, indexFramed}
-use Rattle.index.specs.Layout.Code.{Laid, indexFrame, laid}
+use Rattle.index.specs.Layout.Code.{Laid, indexFrame}
 use Rattle.index.specs.Scan.{Outcome, wrong, right, Scanned, wrongAt, through, usedUp, segmentScan, scanFrom}
 use Rattle.index.specs.Scan.Code.{Reading, sameTo, told}
 use Rattle.index.specs.Scan.Code.Follow.{reading-same}

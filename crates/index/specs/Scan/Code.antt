@@ -3,19 +3,19 @@
 pub mod Follow
 pub mod Select
 pub mod Steps
-use mathlib.Core.Path.{_≡_, refl, sym, ap, _∙_, subst}
-use Prim.Native.Nat.{ℕ, zero, suc, _+_, _-_, _*_, _%_, _≤_, _<_}
+use mathlib.Core.Path.{_≡_, sym, _∙_}
+use Prim.Native.Nat.{ℕ, zero, suc, _+_, _-_, _≤_, _<_}
 use native.Mathlib.Omega.{arith}
-use mathlib.Core.Bool.{Bool, true, false, cond, _&&_, _||_}
+use mathlib.Core.Bool.{Bool, true, false, cond, _&&_}
 use mathlib.Core.List.{List}
-use lib.ListN.{length, getD, set}
+use lib.ListN.{length, getD}
 use lib.Dec.{eqb, ltb}
 use borrow.Author.Tests.{eq-eqb, ne-eqb}
 use Rattle.theory.specs.Records.{Record}
 use Rattle.tray.specs.Frame.{runCount, countOf, Starts}
 use Rattle.index.specs.declared.select.Head.{Head}
 use Rattle.index.specs.Layout.{offsetFrom}
-use Rattle.index.specs.Scan.{Trail, lost, kept, Outcome, wrong, right, runIn, nextIn, hasNext, names, raise, begins, joins, headsAbove, usedUp, offsetsHold, onlyPlaceholders, following, closed, selectorsScan, segmentScan}
+use Rattle.index.specs.Scan.{Trail, lost, kept, Outcome, wrong, right, runIn, nextIn, hasNext, names, raise, begins, joins, headsAbove, offsetsHold, onlyPlaceholders}
 
 -- the runs, their counts, and how far they have been read
 pub record Reading (t counts starts places : List ℕ) : Type 0 where

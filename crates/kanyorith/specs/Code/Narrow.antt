@@ -7,25 +7,25 @@
 use mathlib.Core.Path.{_≡_, refl, sym, ap, _∙_, subst}
 use Prim.Native.Nat.{ℕ, _≤_, _<_}
 use native.Mathlib.Omega.{arith}
-use mathlib.Core.Bool.{Bool, true, false, cond, _&&_, _||_}
+use mathlib.Core.Bool.{Bool, true, false, _&&_}
 use mathlib.Core.List.{List}
 use lib.Dec.{eqb, leb, ltb}
 use borrow.Author.Tests.{leb-true, leb-false, le-ltb, ne-eqb}
 use Rattle.refusal.specs.declared.Refusal.{Refusal}
-use Rattle.refusal.specs.declared.Refusal.the-variants.{TrayFrame, IndexFrame, Cursor as NotBelonging}
-use Rattle.theory.specs.Tests.{split, cases}
+use Rattle.refusal.specs.declared.Refusal.the-variants.{Cursor as NotBelonging}
+use Rattle.theory.specs.Tests.{cases}
 use Rattle.tray.specs.Frame.{runCount, framed}
 use Rattle.index.specs.Layout.{sizeOf, segmentCount, indexFramed}
 use Rattle.index.specs.Layout.Laws.{index-fits}
 use Rattle.walk.specs.declared.cursor.Cursor.{Cursor}
 use Rattle.walk.specs.Walk.{Spot}
-use Rattle.walk.specs.Reads.{belongs, next, page, samePlaces, placesAt}
+use Rattle.walk.specs.Reads.{belongs}
 use Rattle.walk.specs.Code.{spotOf}
 use Rattle.walk.specs.Answers.{inFrames}
-use Rattle.next.specs.Answers.{refusedNext, nextTold, nextFramed, nextAnswer}
-use Rattle.listing.specs.Answers.{refusedPage, pageTold, pageLeft, pageFramed, leftFramed, pageAnswer, pageLeaves}
-use Rattle.kanyorith.specs.Promises.{runLeft, placeLeft, cursorLeft, Sought, pageCursorLeft, Paging}
-use Rattle.kanyorith.specs.Wide.{narrowed, narrowed-same, narrow-high}
+use Rattle.next.specs.Answers.{refusedNext, nextFramed, nextAnswer}
+use Rattle.listing.specs.Answers.{refusedPage, pageFramed, leftFramed, pageAnswer, pageLeaves}
+use Rattle.kanyorith.specs.Promises.{cursorLeft, Sought, pageCursorLeft, Paging}
+use Rattle.kanyorith.specs.Wide.{narrowed-same, narrow-high}
 use Rattle.kanyorith.specs.Cursors.Laws.{narrowCursor}
 
 -- why a cursor at segment g that does not belong is refused

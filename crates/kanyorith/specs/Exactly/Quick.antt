@@ -7,20 +7,20 @@
 --     PageSays, page-exactly        page: 1, 4, 11, 10
 --     SheetSays, sheet-exactly      sheet: 1, 4, 8, 9, 10, 7
 -- Assumes nothing.
-use mathlib.Core.Path.{_≡_, refl, sym, ap, _∙_, subst}
+use mathlib.Core.Path.{_≡_, refl, sym, ap, _∙_}
 use mathlib.Core.Logic.{_↔_, _⊎_, inl, inr}
-use Prim.Native.Nat.{ℕ, zero, suc, _+_, _-_, _*_, _≤_, _<_}
+use Prim.Native.Nat.{ℕ, _+_, _-_, _*_, _≤_, _<_}
 use native.Mathlib.Omega.{arith}
-use mathlib.Core.Bool.{Bool, true, false, cond, _&&_}
+use mathlib.Core.Bool.{true, false}
 use mathlib.Core.List.{List}
 use lib.ListN.{length, getD}
 use lib.Dec.{eqb, leb}
 use borrow.Author.Tests.{eqb-true, eqb-false, eq-eqb, ne-eqb, leb-true, leb-false, le-leb, lt-leb}
 use Rattle.number.specs.Big.{be}
 use Rattle.refusal.specs.declared.Refusal.{Refusal}
-use Rattle.refusal.specs.declared.Refusal.the-variants.{TrayFrame, IndexFrame, Room, Bounds, PrefixEnd, Lost, Cursor as NotBelonging}
+use Rattle.refusal.specs.declared.Refusal.the-variants.{TrayFrame, IndexFrame, Bounds, PrefixEnd, Cursor as NotBelonging}
 use Rattle.refusal.specs.declared.Verdict.{Verdict}
-use Rattle.refusal.specs.Table.{told, verdictOf}
+use Rattle.refusal.specs.Table.{told}
 use Rattle.theory.specs.Records.{Record}
 use Rattle.theory.specs.Tests.{split, cases, clash, and-true, and-left, and-right}
 use Rattle.tray.specs.Frame.{runCount, runBytes, framed, Framed}
@@ -32,14 +32,14 @@ use Rattle.walk.specs.declared.cursor.Cursor.{Cursor}
 use Rattle.walk.specs.declared.get.Gets.{Gets}
 use Rattle.walk.specs.declared.calls.Seeks.{Seeks}
 use Rattle.walk.specs.Walk.{Spot, Walked, stayed, ended, lost}
-use Rattle.walk.specs.Reads.{Found, seek, Got, value, absent, get-lost, gotFrom, get, next, Written, page, sheet, belongs}
+use Rattle.walk.specs.Reads.{Found, seek, Got, gotFrom, get, next, Written, page, sheet, belongs}
 use Rattle.walk.specs.Code.{spotOf}
 use Rattle.walk.specs.Answers.{inFrames, refusedSeek, seekTold as seekBy, seekFramed, seekAnswer, refusedGet, gotTold, getFramed, getAnswer}
 use Rattle.next.specs.Answers.{refusedNext, nextTold, nextFramed, nextAnswer}
 use Rattle.listing.specs.declared.calls.Pages.{Pages}
 use Rattle.listing.specs.Answers.{refusedPage, pageTold as pageBy, pageFramed, pageAnswer}
 use Rattle.sheet.specs.declared.calls.SheetAnswer.{SheetAnswer}
-use Rattle.sheet.specs.declared.calls.SheetAnswer.the-variants.{Listed, Refused as SheetRefused}
+use Rattle.sheet.specs.declared.calls.SheetAnswer.the-variants.{Refused as SheetRefused}
 use Rattle.sheet.specs.Answers.{prefixLong, prefixLast, listedIn, sheetTold as sheetBy, sheetFramed, sheetAnswer}
 use Rattle.kanyorith.specs.Told.{getTold, seekTold, pageTold, sheetTold}
 use Rattle.kanyorith.specs.Exactly.{exactly-by}

@@ -4,8 +4,7 @@
 --     build-refused, sheet-refused, fold-refused, ..               a refusal behind any other number
 --     get-cases, seek-cases, page-cases                            the answer behind a number and figure
 -- Assumes nothing.
-use mathlib.Core.Path.{_≡_, refl, sym, ap, _∙_, subst}
-use mathlib.Core.Logic.{_⊎_, inl, inr}
+use mathlib.Core.Path.{_≡_, refl, sym, ap}
 use Prim.Native.Nat.{ℕ, _<_}
 use native.Mathlib.Omega.{arith}
 use Rattle.refusal.specs.declared.Refusal.{Refusal}

@@ -3,23 +3,22 @@
 --     Filling, filling-none, filling-more, filling-end    bytes written one by one, each by its place
 --     Spelling, spelling-none, spelling-more, spelling-end    bytes written as digits, one by one
 -- Assumes nothing.
-use mathlib.Core.Path.{_≡_, refl, sym, ap, ap₂, _∙_, subst}
-use Prim.Native.Nat.{ℕ, zero, suc, _+_, _-_, _*_, _/_, _%_, _≤_, _<_}
+use mathlib.Core.Path.{_≡_, refl, sym, ap, _∙_}
+use Prim.Native.Nat.{ℕ, suc, _+_, _-_, _*_, _/_, _%_, _≤_, _<_}
 use native.Mathlib.Nat.{add-zero, zero-add, sub-zero}
 use native.Mathlib.Numerals.{add-one, one-add}
 use native.Mathlib.Omega.{arith}
-use mathlib.Core.Bool.{Bool, true, false, cond, _&&_, _||_}
-use mathlib.Core.List.{List, [], _∷_, _++_}
-use lib.ListN.{length, getD, set, drop, length-set, take-append-drop, drop-of-length-le}
+use mathlib.Core.Bool.{Bool, true, false, cond, _&&_}
+use mathlib.Core.List.{List, [], _∷_}
+use lib.ListN.{length, getD, set, drop, length-set, drop-of-length-le}
 use lib.Seq.{drop-cons}
-use lib.Dec.{eqb, leb}
+use lib.Dec.{eqb}
 use borrow.Author.Tests.{le-leb, lt-leb, ne-eqb}
 use Rattle.number.specs.Big.{put}
 use Rattle.number.specs.Big.Writes.{put-nil, put-cons}
-use Rattle.theory.specs.Tests.{cases}
 use Rattle.theory.specs.Listed.{listed}
-use Rattle.theory.specs.Listed.Laws.{length-listed, listed-same}
-use Rattle.lines.specs.Hex.{isDigit, digitOf, digit, allDigits, bytesIn, hexOf}
+use Rattle.theory.specs.Listed.Laws.{listed-same}
+use Rattle.lines.specs.Hex.{isDigit, digit, allDigits, bytesIn, hexOf}
 use Rattle.lines.specs.Hex.Laws.{pairAt}
 
 -- 0 for a digit, 1 for any other character

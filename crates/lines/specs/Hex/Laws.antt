@@ -10,16 +10,15 @@
 --     hexOf-bytesIn               the digits of the bytes that a line spells are this line
 --     bytes-bytesIn               what a line of digits spells are bytes
 -- Assumes nothing.
-use mathlib.Core.Path.{_≡_, refl, sym, ap, ap₂, _∙_, subst}
+use mathlib.Core.Path.{_≡_, refl, ap, _∙_, subst}
 use mathlib.Core.Logic.{_⊎_, inl, inr, ⊎-elim}
-use Prim.Native.Nat.{ℕ, zero, suc, _+_, _*_, _/_, _%_, _≤_, _<_}
-use native.Mathlib.Nat.{div-add-mod', le-of-suc-le-suc, add-zero, zero-add}
-use native.Mathlib.Numerals.{add-one}
+use Prim.Native.Nat.{ℕ, zero, suc, _+_, _*_, _/_, _%_, _<_}
+use native.Mathlib.Nat.{div-add-mod', zero-add}
 use native.Mathlib.Omega.{arith}
 use mathlib.Core.Bool.{Bool, true, false, cond, _&&_, _||_}
 use mathlib.Core.List.{List, [], _∷_, _++_}
-use lib.ListN.{length, getD, length-append}
-use lib.Dec.{T, leb, ltb, eqb, eqb→eq, ltb→lt, leb→le}
+use lib.ListN.{length, getD}
+use lib.Dec.{T, leb, ltb, eqb, eqb→eq, ltb→lt}
 use borrow.Author.Tests.{leb-true}
 use Rattle.number.specs.Big.{Bytes}
 use Rattle.number.specs.Big.Laws.{bytes-cons}

@@ -1,11 +1,10 @@
 -- The lines of document 01, "The program `drawer`", and what the words there leave to a case, each by computation.
 use mathlib.Core.Path.{_≡_, refl}
-use Prim.Native.Nat.{ℕ, _+_}
+use Prim.Native.Nat.{ℕ}
 use Prim.Native.Char.{code}
 use Prim.Native.String.{String, [] as none, _∷_ as _then_}
-use mathlib.Core.List.{List, [], _∷_, _++_}
-use lib.ListN.{length, replicate}
-use Rattle.number.specs.Big.{be, bytesOf, put}
+use mathlib.Core.List.{List, [], _∷_}
+use Rattle.number.specs.Big.{be, bytesOf}
 use Rattle.theory.specs.Rising.{any, insert, insertAll}
 use Rattle.theory.specs.Listed.{listed}
 use Rattle.theory.specs.Merge.{hidden}

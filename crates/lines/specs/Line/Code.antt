@@ -7,13 +7,12 @@
 --     sheet-fits, sheet-listed, sheet-refused         04
 -- Assumes nothing.
 use mathlib.Core.Path.{_≡_, refl, sym, ap, ap₂, _∙_, subst}
-use Prim.Native.Nat.{ℕ, zero, suc, _+_, _-_, _*_, _/_, _%_, _^_, _≤_, _<_}
-use native.Mathlib.Nat.{add-zero, zero-add, div-div-eq-div-mul, div-add-mod'}
+use Prim.Native.Nat.{ℕ, _+_, _-_, _*_, _/_, _%_, _≤_, _<_}
+use native.Mathlib.Nat.{zero-add, div-div-eq-div-mul, div-add-mod'}
 use native.Mathlib.Numerals.{add-one}
 use native.Mathlib.Omega.{arith}
-use mathlib.Core.Bool.{Bool, true, false, cond}
 use mathlib.Core.List.{List, [], _∷_, _++_, append-nil}
-use lib.ListN.{length, getD, take, drop, set, length-set, length-append, length-replicate}
+use lib.ListN.{length, getD, take, set, length-set, length-append}
 use lib.Seq.{length-take-le, take-suc-set}
 use lib.Dec.{leb}
 use borrow.Author.Tests.{leb-true}
@@ -37,14 +36,13 @@ use Rattle.walk.specs.declared.get.Gets.{Gets}
 use Rattle.walk.specs.declared.get.GetAnswer.{GetAnswer}
 use Rattle.walk.specs.declared.get.GetAnswer.the-variants.{Found, Absent, Refused as GetRefused}
 use Rattle.walk.specs.Walk.{Walked, stayed, ended, lost}
-use Rattle.walk.specs.Answers.{inFrames, getAnswer, getFramed, gotTold, refusedGet}
+use Rattle.walk.specs.Answers.{getAnswer, getFramed, gotTold, refusedGet}
 use Rattle.walk.specs.Answers.Hands.{in-frames}
 use Rattle.walk.specs.Reads.{Got, value, absent, get-lost, get, sheet}
 use Rattle.walk.specs.Reads.Page.{listing, length-listing}
 use Rattle.sheet.specs.declared.calls.SheetAnswer.{SheetAnswer}
 use Rattle.sheet.specs.declared.calls.SheetAnswer.the-variants.{Listed, Refused as SheetRefused}
 use Rattle.sheet.specs.Answers.{prefixLong, prefixLast, listedIn, sheetTold, recordsOf, sheetFramed, sheetAnswer, sheetLeaves}
-use Rattle.lines.specs.declared.frames.Held.{Held}
 use Rattle.lines.specs.Hex.{hexOf}
 use Rattle.lines.specs.Hex.Laws.{length-hexOf, hexOf-append}
 use Rattle.lines.specs.Line.{roomSize, answer, refusal, badAnswer, afterTray, afterBuild, afterGet, afterSheet, answerLine}

@@ -5,10 +5,10 @@
 --     says-bytes, says-room     what a line says are bytes, at most 6 and a full room
 --     answer-digits, answer-room     so an answer line has digits and one line feed at its end, at most 65,549 of them
 -- Assumes nothing.
-use mathlib.Core.Path.{_≡_, refl, sym, ap, _∙_, subst}
-use Prim.Native.Nat.{ℕ, zero, suc, _+_, _*_, _%_, _≤_, _<_}
+use mathlib.Core.Path.{_≡_, refl, sym, ap, _∙_}
+use Prim.Native.Nat.{ℕ, zero, suc, _+_, _≤_, _<_}
 use native.Mathlib.Omega.{arith}
-use mathlib.Core.Bool.{Bool, true, false, cond}
+use mathlib.Core.Bool.{true, false}
 use mathlib.Core.List.{List, [], _∷_, _++_}
 use lib.ListN.{length, getD, take, drop, replicate, length-append}
 use lib.Seq.{take-all, length-take-le}
@@ -28,7 +28,7 @@ use Rattle.tray.specs.Check.{checkTray}
 use Rattle.tray.specs.Meaning.{runsOf}
 use Rattle.built.specs.declared.BuildAnswer.{BuildAnswer}
 use Rattle.built.specs.declared.BuildAnswer.the-variants.{Written, Refused as BuildRefused}
-use Rattle.built.specs.Build.{build, indexBytes, indexSize}
+use Rattle.built.specs.Build.{build, indexBytes}
 use Rattle.built.specs.Build.Answers.{build-written}
 use Rattle.built.specs.Build.Bytes.{length-indexBytes, bytes-indexBytes}
 use Rattle.built.specs.Build.Theorems.{sound-ready}

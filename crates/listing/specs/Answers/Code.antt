@@ -4,16 +4,16 @@
 --     page-off, off-left      a cursor that doesn't belong
 -- Assumes nothing.
 use mathlib.Core.Path.{_≡_, refl, sym, ap, _∙_}
-use Prim.Native.Nat.{ℕ, _≤_, _<_}
+use Prim.Native.Nat.{ℕ, _≤_}
 use native.Mathlib.Omega.{arith}
-use mathlib.Core.Bool.{Bool, true, false, cond}
+use mathlib.Core.Bool.{Bool, true, false}
 use mathlib.Core.List.{List}
 use borrow.Author.Tests.{le-ltb}
-use Rattle.refusal.specs.declared.Refusal.the-variants.{Lost, Cursor as NotBelonging}
+use Rattle.refusal.specs.declared.Refusal.the-variants.{Cursor as NotBelonging}
 use Rattle.tray.specs.Frame.{runCount}
 use Rattle.index.specs.Layout.{segmentCount}
 use Rattle.walk.specs.declared.cursor.Cursor.{Cursor}
-use Rattle.walk.specs.Walk.{Spot, Walked, stayed, ended, lost, walkFrom}
+use Rattle.walk.specs.Walk.{Spot, walkFrom}
 use Rattle.walk.specs.Reads.{Written, endSpot, belongs, page, pageVisit}
 use Rattle.walk.specs.Code.{Walking, spotOf}
 use Rattle.walk.specs.Answers.{cursorOf}
@@ -23,7 +23,7 @@ use Rattle.listing.specs.declared.page.Stop.{Stop}
 use Rattle.listing.specs.declared.page.Stop.the-variants.{More as StopMore, End as StopEnd, Lost as StopLost}
 use Rattle.listing.specs.declared.page.Paged.{Paged}
 use Rattle.listing.specs.declared.calls.Pages.{Pages}
-use Rattle.listing.specs.declared.calls.PageAnswer.the-variants.{More, End, Refused}
+use Rattle.listing.specs.declared.calls.PageAnswer.the-variants.{More, End}
 use Rattle.listing.specs.Page.{begun, pagedAs, pagedOf}
 use Rattle.listing.specs.Answers.{refusedPage, pageTold, pageLeft, pageFramed, leftFramed, toldAs, toldPage}
 

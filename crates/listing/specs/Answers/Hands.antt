@@ -1,9 +1,9 @@
 -- The cursor that page hands back belongs to the same tray and index, whatever the index says: page is refused, or its cursor belongs.
 -- Assumes nothing.
-use mathlib.Core.Path.{_≡_, refl, sym, ap, _∙_, subst}
+use mathlib.Core.Path.{_≡_, refl, ap, _∙_, subst}
 use mathlib.Core.Logic.{_⊎_, inl, inr}
-use Prim.Native.Nat.{ℕ, _+_, _*_, _≤_, _<_}
-use mathlib.Core.Bool.{Bool, true, false, cond}
+use Prim.Native.Nat.{ℕ, _+_, _*_, _<_}
+use mathlib.Core.Bool.{true}
 use mathlib.Core.List.{List, []}
 use lib.ListN.{length}
 use lib.Dec.{ltb, leb}
@@ -15,12 +15,12 @@ use Rattle.tray.specs.Frame.{runCount, Framed}
 use Rattle.index.specs.Layout.{segmentCount}
 use Rattle.walk.specs.declared.cursor.Cursor.{Cursor}
 use Rattle.walk.specs.Walk.{Spot, Visit, stay, go, Walked, stayed, ended, lost, walkFrom}
-use Rattle.walk.specs.Reads.{Written, endSpot, belongs, unmarked, recordBy, write, pageVisit, page}
-use Rattle.walk.specs.Reads.Handed.{Stands, from-stands, stands-belongs, belongs-stands, end-belongs}
-use Rattle.walk.specs.Code.{numbers, length-numbers, spotOf}
+use Rattle.walk.specs.Reads.{Written, endSpot, belongs, unmarked, pageVisit, page}
+use Rattle.walk.specs.Reads.Handed.{from-stands, stands-belongs, belongs-stands, end-belongs}
+use Rattle.walk.specs.Code.{length-numbers, spotOf}
 use Rattle.walk.specs.Answers.Hands.{in-frames, spot-belonging, Belonging}
 use Rattle.listing.specs.declared.calls.Pages.{Pages}
-use Rattle.listing.specs.declared.calls.PageAnswer.the-variants.{More, End, Refused}
+use Rattle.listing.specs.declared.calls.PageAnswer.the-variants.{Refused}
 use Rattle.listing.specs.Answers.{refusedPage, pageTold, pageFramed, pageAnswer}
 
 -- the answer is refused, or its cursor belongs

@@ -5,22 +5,21 @@
 --     next-off              a cursor that doesn't belong
 --     belongs-low           one that belongs and is not the end stands at a selector
 -- Assumes nothing.
-use mathlib.Core.Path.{_≡_, refl, sym, ap, _∙_}
+use mathlib.Core.Path.{_≡_, sym, ap, _∙_}
 use Prim.Native.Nat.{ℕ, _≤_, _<_}
 use native.Mathlib.Omega.{arith}
-use mathlib.Core.Bool.{Bool, true, false, cond, _&&_, _||_}
-use mathlib.Core.List.{List, [], _∷_, map}
-use lib.ListN.{replicate}
+use mathlib.Core.Bool.{Bool, true, false}
+use mathlib.Core.List.{List}
 use lib.Dec.{ltb}
 use borrow.Author.Tests.{le-ltb, ltb-true, ltb-false}
 use Rattle.refusal.specs.declared.Refusal.the-variants.{Cursor as NotBelonging}
 use Rattle.theory.specs.Tests.{cases, clash}
 use Rattle.tray.specs.Frame.{runCount}
-use Rattle.index.specs.Layout.{sizeOf, segmentCount}
+use Rattle.index.specs.Layout.{segmentCount}
 use Rattle.walk.specs.declared.cursor.Cursor.{Cursor}
 use Rattle.walk.specs.declared.calls.Seeks.{Seeks}
 use Rattle.walk.specs.declared.calls.SeekAnswer.the-variants.{End}
-use Rattle.walk.specs.Walk.{Spot, ended, walkFrom}
+use Rattle.walk.specs.Walk.{walkFrom}
 use Rattle.walk.specs.Reads.{endSpot, belongs, next}
 use Rattle.walk.specs.Code.{Walking, numbers, spotOf}
 use Rattle.walk.specs.Answers.{cursorOf}

@@ -1,10 +1,10 @@
 -- The cursor that next hands back belongs to the same tray and index, whatever the index says: next is refused, or its cursor belongs.
 -- Assumes nothing.
-use mathlib.Core.Path.{_≡_, refl, sym, ap, _∙_, subst}
-use mathlib.Core.Logic.{_⊎_, inl, inr}
-use Prim.Native.Nat.{ℕ, _≤_, _<_}
-use mathlib.Core.Bool.{Bool, true, false, cond, _&&_}
-use mathlib.Core.List.{List, []}
+use mathlib.Core.Path.{_≡_, refl, ap, _∙_, subst}
+use mathlib.Core.Logic.{inl, inr}
+use Prim.Native.Nat.{ℕ, _<_}
+use mathlib.Core.Bool.{true, cond, _&&_}
+use mathlib.Core.List.{List}
 use lib.ListN.{length}
 use lib.Dec.{eqb, ltb}
 use borrow.Author.Tests.{ltb-true}
@@ -15,8 +15,8 @@ use Rattle.index.specs.Layout.{segmentCount}
 use Rattle.walk.specs.declared.cursor.Cursor.{Cursor}
 use Rattle.walk.specs.Walk.{Spot, Visit, stay, go, Walked, stayed, ended, lost, walkFrom}
 use Rattle.walk.specs.Reads.{Found, endSpot, belongs, unmarked, foundBy, nextVisit, next}
-use Rattle.walk.specs.Reads.Handed.{Stands, from-stands, stands-belongs, belongs-stands, end-belongs}
-use Rattle.walk.specs.Code.{numbers, length-numbers, spotOf}
+use Rattle.walk.specs.Reads.Handed.{from-stands, stands-belongs, belongs-stands, end-belongs}
+use Rattle.walk.specs.Code.{length-numbers, spotOf}
 use Rattle.walk.specs.Answers.Hands.{in-frames, spot-belonging, Hands, spotIn}
 use Rattle.next.specs.Answers.{refusedNext, nextTold, nextFramed, nextAnswer}
 

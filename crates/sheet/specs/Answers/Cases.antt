@@ -2,7 +2,7 @@
 use mathlib.Core.Path.{_≡_, refl}
 use Prim.Native.Nat.{ℕ}
 use mathlib.Core.List.{List, [], _∷_, _++_}
-use lib.ListN.{length, replicate}
+use lib.ListN.{replicate}
 use Rattle.number.specs.Big.{be}
 use Rattle.refusal.specs.declared.Refusal.the-variants.{IndexFrame, Room, Bounds, PrefixEnd, Lost}
 use Rattle.theory.specs.Listed.{listed}

@@ -5,17 +5,15 @@
 -- Assumes nothing.
 use mathlib.Core.Path.{_≡_, refl, sym, ap, ap₂, _∙_}
 use Prim.Native.Nat.{ℕ, _-_}
-use native.Mathlib.Omega.{arith}
 use mathlib.Core.Bool.{Bool, true, false, cond}
 use mathlib.Core.List.{List, [], _∷_, map}
 use lib.ListN.{replicate}
-use Rattle.number.specs.Big.{be}
 use Rattle.refusal.specs.declared.Refusal.{Refusal}
-use Rattle.refusal.specs.declared.Refusal.the-variants.{TrayFrame, IndexFrame, Lost}
+use Rattle.refusal.specs.declared.Refusal.the-variants.{TrayFrame, IndexFrame}
 use Rattle.theory.specs.Tests.{never}
 use Rattle.tray.specs.declared.Place.{Place}
 use Rattle.tray.specs.declared.frame.TrayFrame.{TrayFrame as Frame}
-use Rattle.tray.specs.Frame.{runCount, framed, Framing, Opened}
+use Rattle.tray.specs.Frame.{runCount, Framing, Opened}
 use Rattle.index.specs.declared.frame.IndexFrame.the-variants.{Fits, Wrong}
 use Rattle.index.specs.Layout.{sizeOf, segmentCount, segmentAt, indexFramed}
 use Rattle.index.specs.Layout.Code.{Laid, indexFrame}
@@ -26,11 +24,10 @@ use Rattle.walk.specs.declared.cursor.Sought.{Sought}
 use Rattle.walk.specs.declared.calls.Seeks.{Seeks}
 use Rattle.walk.specs.declared.calls.SeekAnswer.the-variants.{Found, End}
 use Rattle.walk.specs.Start.{start}
-use Rattle.walk.specs.Start.Code.{Probing}
-use Rattle.walk.specs.Walk.{Spot, Walked, stayed, ended, lost, walkSegments}
+use Rattle.walk.specs.Walk.{walkSegments}
 use Rattle.walk.specs.Reads.{seek, seekVisit, endSpot}
 use Rattle.walk.specs.Code.{Walking, numbers, spotOf, soughtAs, soughtOf}
-use Rattle.walk.specs.Answers.{cursorOf, noCursor, refusedSeek, seekTold, seekFramed, inFrames, toldAs, toldSeek}
+use Rattle.walk.specs.Answers.{cursorOf, seekTold, seekFramed, inFrames, toldAs, toldSeek}
 
 -- tray and index as the walk asks for them
 pub walking : {t x : List ℕ} {f : Frame} {d n : ℕ} → Opened t f → Laid t x d n → Walking t x (f .runs) d n (f .counts)

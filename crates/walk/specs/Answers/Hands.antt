@@ -7,27 +7,26 @@
 -- Assumes nothing.
 use mathlib.Core.Path.{_≡_, refl, sym, ap, subst}
 use mathlib.Core.Logic.{_⊎_, inl, inr}
-use Prim.Native.Nat.{ℕ, _-_, _≤_}
+use Prim.Native.Nat.{ℕ, _-_}
 use native.Mathlib.Omega.{arith}
-use mathlib.Core.Bool.{Bool, true, false, cond, _&&_}
+use mathlib.Core.Bool.{true, _&&_}
 use mathlib.Core.List.{List, [], _∷_, map}
 use lib.Dec.{leb}
 use Rattle.number.specs.Big.{be}
 use Rattle.refusal.specs.declared.Refusal.{Refusal}
 use Rattle.refusal.specs.declared.Refusal.the-variants.{TrayFrame, IndexFrame, Lost}
 use Rattle.theory.specs.Tests.{split, cases, never}
-use Rattle.tray.specs.declared.Place.{Place}
 use Rattle.tray.specs.Frame.{runCount, framed, Framed}
 use Rattle.tray.specs.Frame.Laws.{framed-fits}
 use Rattle.index.specs.Layout.{segmentCount, indexFramed}
 use Rattle.walk.specs.declared.cursor.Cursor.{Cursor}
 use Rattle.walk.specs.declared.calls.Seeks.{Seeks}
-use Rattle.walk.specs.declared.calls.SeekAnswer.the-variants.{Found, End, Refused}
+use Rattle.walk.specs.declared.calls.SeekAnswer.the-variants.{Refused}
 use Rattle.walk.specs.Start.{start}
 use Rattle.walk.specs.Start.Laws.{start-le}
 use Rattle.walk.specs.Walk.{Spot, Visit, stay, go, Walked, stayed, ended, lost}
 use Rattle.walk.specs.Reads.{Found as Sighted, endSpot, belongs, unmarked, recordBy, foundBy, seekVisit, seek}
-use Rattle.walk.specs.Reads.Handed.{Stands, segments-stand, stands-belongs, end-belongs}
+use Rattle.walk.specs.Reads.Handed.{segments-stand, stands-belongs, end-belongs}
 use Rattle.walk.specs.Code.{numbers, spotOf}
 use Rattle.walk.specs.Answers.{cursorOf, inFrames, refusedSeek, seekTold, seekFramed, seekAnswer}
 

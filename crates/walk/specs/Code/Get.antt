@@ -5,10 +5,10 @@
 --     got-value, got-nothing        what get came to
 -- Assumes nothing.
 use mathlib.Core.Path.{_≡_, refl, sym, ap, ap₂, _∙_, subst}
-use Prim.Native.Nat.{ℕ, zero, suc, _+_, _-_, _<_}
+use Prim.Native.Nat.{ℕ, _+_, _-_, _<_}
 use mathlib.Core.Logic.{_⊎_, inl, inr}
 use native.Mathlib.Omega.{arith}
-use mathlib.Core.Bool.{Bool, true, false, cond, _&&_}
+use mathlib.Core.Bool.{cond, _&&_}
 use mathlib.Core.List.{List}
 use lib.ListN.{getD}
 use lib.Dec.{eqb, leb, ltb}
@@ -27,8 +27,8 @@ use Rattle.walk.specs.declared.cursor.Sought.{Sought}
 use Rattle.walk.specs.declared.get.Gets.{Gets}
 use Rattle.walk.specs.declared.get.GetAnswer.the-variants.{Found as GetFound, Absent}
 use Rattle.walk.specs.Start.{start}
-use Rattle.walk.specs.Walk.{Spot, Visit, stay, go, Walked, stayed, ended, lost, named, walkSegments}
-use Rattle.walk.specs.Reads.{Found, unmarked, recordBy, foundBy, seekVisit, seek, value, absent, get-lost, gotFrom, get}
+use Rattle.walk.specs.Walk.{Spot, Visit, stay, go, Walked, stayed, named, walkSegments}
+use Rattle.walk.specs.Reads.{Found, unmarked, recordBy, foundBy, seekVisit, seek, value, absent, gotFrom, get}
 use Rattle.walk.specs.Code.{Walking, spotOf, soughtAs, soughtOf}
 use Rattle.walk.specs.Code.Stayed.{Stands, segments-stayed}
 use Rattle.walk.specs.Answers.{valueless, refusedGet, gotTold, getFramed}

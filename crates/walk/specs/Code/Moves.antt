@@ -8,7 +8,7 @@ use Rattle.tray.specs.declared.Place.{Place}
 use Rattle.index.specs.Scan.{raise}
 use Rattle.walk.specs.declared.cursor.Cursor.{Cursor}
 use Rattle.walk.specs.Walk.{Spot}
-use Rattle.walk.specs.Code.{placed, numbers, raise-numbers, spotOf}
+use Rattle.walk.specs.Code.{placed, raise-numbers, spotOf}
 
 -- past a placeholder
 unfoldable pub pastGap : Spot → Spot

@@ -6,15 +6,15 @@
 use mathlib.Core.Path.{_≡_, refl, sym, ap, _∙_}
 use Prim.Native.Nat.{ℕ, zero, suc, _+_, _-_, _≤_, _<_}
 use native.Mathlib.Omega.{arith}
-use mathlib.Core.Bool.{true, false, cond}
+use mathlib.Core.Bool.{true, false}
 use mathlib.Core.List.{List}
-use lib.Dec.{eqb, ltb}
+use lib.Dec.{eqb}
 use borrow.Author.Tests.{lt-ltb}
 use Rattle.theory.specs.Tests.{cases, never}
 use Rattle.tray.specs.Frame.{runCount}
 use Rattle.index.specs.Layout.{sizeOf, segmentCount}
 use Rattle.index.specs.Scan.{runIn, raise}
-use Rattle.walk.specs.Walk.{Spot, Visit, stay, go, Walked, stayed, ended, lost, selectorAt, loaded, named, walkSelectors, walkSegments, walkFrom}
+use Rattle.walk.specs.Walk.{Spot, Visit, stay, go, Walked, stayed, lost, selectorAt, loaded, named, walkSelectors, walkSegments, walkFrom}
 use Rattle.walk.specs.Code.{after-visit, one-selector}
 
 -- a spot stands at a selector of one of n segments, which names a record

@@ -9,10 +9,9 @@
 use mathlib.Core.Path.{_≡_, refl, sym, ap, ap₂, _∙_}
 use Prim.Native.Nat.{ℕ, suc, _+_, _-_, _*_, _%_, _≤_, _<_}
 use native.Mathlib.Omega.{arith}
-use mathlib.Core.Bool.{Bool, true, false, cond}
+use mathlib.Core.Bool.{true, false}
 use mathlib.Core.List.{List}
 use lib.ListN.{length, getD}
-use lib.Dec.{ltb}
 use borrow.Author.Tests.{lt-ltb, le-ltb}
 use Rattle.tray.specs.declared.Place.{Place}
 use Rattle.tray.specs.Frame.{runCount, countOf}
@@ -20,7 +19,7 @@ use Rattle.index.specs.Layout.{headSize, sizeOf, segmentCount, segmentAt}
 use Rattle.index.specs.Layout.Code.{segmentAt-next, segmentAt-le}
 use Rattle.walk.specs.declared.cursor.Cursor.{Cursor}
 use Rattle.walk.specs.Walk.{Spot, Visit, Walked, ended, selectorAt, loaded, named, walkSelectors, walkSegments, walkFrom}
-use Rattle.walk.specs.Code.{placed, numbers, getD-numbers, length-numbers, Walking, spotOf, Segmenting, Selecting, segments-enter, segments-end, selectors-end}
+use Rattle.walk.specs.Code.{placed, numbers, getD-numbers, length-numbers, Walking, spotOf, Selecting, segments-enter, segments-end, selectors-end}
 use Rattle.walk.specs.Code.Load.{loadedFrom, loaded-is, length-loaded}
 
 -- the walk stands at selector s of segment g, and from there answers for the whole

@@ -12,21 +12,20 @@ use native.Mathlib.Omega.{arith}
 use native.Mathlib.Nat.{zero-add, add-zero}
 use native.Mathlib.Numerals.{add-one}
 use mathlib.Core.Logic.{_⊎_, inl, inr}
-use mathlib.Core.Bool.{Bool, true, false, cond, _&&_, _||_}
+use mathlib.Core.Bool.{true, false, cond, _&&_}
 use mathlib.Core.List.{List}
 use lib.ListN.{length, getD, set, replicate, length-set}
 use lib.Seq.{ext-getD, getD-set-same, getD-set-other}
 use lib.Dec.{eqb, ltb}
-use borrow.Author.Tests.{eq-eqb, ne-eqb, eqb-true, eqb-false, lt-ltb, le-ltb, ltb-true, ltb-false}
+use borrow.Author.Tests.{eq-eqb, ne-eqb, eqb-true, eqb-false, lt-ltb, ltb-true}
 use Rattle.theory.specs.Tests.{cases, never, and-left, and-right, and-true}
-use Rattle.theory.specs.Listed.{listed}
 use Rattle.theory.specs.Listed.Laws.{length-listed, listed-same}
-use Rattle.tray.specs.Frame.{runCount, countOf}
+use Rattle.tray.specs.Frame.{runCount}
 use Rattle.index.specs.Layout.{sizeOf, segmentCount, segmentAt, offsetFrom}
 use Rattle.index.specs.Layout.Laws.{getD-listed}
 use Rattle.index.specs.Scan.{runIn, raise}
 use Rattle.index.specs.Scan.Laws.{or-left, or-right, or-cases}
-use Rattle.walk.specs.Walk.{Spot, Visit, stay, go, Walked, stayed, ended, lost, selectorAt, loaded, named, walkSelectors, walkSegments, walkFrom}
+use Rattle.walk.specs.Walk.{Spot, Visit, stay, go, Walked, stayed, lost, selectorAt, loaded, named, walkSelectors, walkSegments, walkFrom}
 use Rattle.walk.specs.Code.{after-visit, one-selector}
 use Rattle.walk.specs.Code.Stayed.{same-stay}
 use Rattle.walk.specs.Reads.{endSpot, selectorsOf, placesAt, samePlaces, belongs}

@@ -4,8 +4,7 @@
 --     follow-is, follow-falls, follow-not    a later one
 --     joins-head, begins-head  of a record only key and kind count
 -- Assumes nothing.
-use mathlib.Core.Path.{_≡_, refl, sym, ap, ap₂, _∙_}
-use mathlib.Core.Logic.{_⊎_, inl, inr, ⊎-elim}
+use mathlib.Core.Path.{_≡_, refl, sym, ap, _∙_}
 use Prim.Native.Nat.{ℕ, _+_, _-_, _*_, _/_, _%_, _≤_, _<_}
 use native.Mathlib.Nat.{le-of-lt}
 use native.Mathlib.Omega.{arith}
@@ -13,7 +12,7 @@ use mathlib.Core.Bool.{Bool, true, false, cond, _&&_, _||_}
 use lib.Dec.{eqb, ltb, leb}
 use borrow.Author.Tests.{eq-eqb, ne-eqb, le-ltb, lt-ltb, ltb-true, ltb-false, le-leb, lt-leb, eqb-true, eqb-false}
 use Rattle.theory.specs.Records.{Record}
-use Rattle.theory.specs.Tests.{cases, order}
+use Rattle.theory.specs.Tests.{cases}
 use Rattle.index.specs.declared.select.Head.{Head}
 use Rattle.index.specs.Scan.{marked, begins, joins}
 use Rattle.index.specs.Scan.Code.{HeadOf, headed}

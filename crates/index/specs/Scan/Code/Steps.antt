@@ -4,19 +4,18 @@
 --     step-is, step-not, step-end, step-past       one selector after another record
 --     begin-reads, begin-not, begin-other, begin-end, begin-past   the first selector of a segment
 -- Assumes nothing.
-use mathlib.Core.Path.{_≡_, refl, sym, ap, _∙_, subst}
-use Prim.Native.Nat.{ℕ, suc, _+_, _%_, _≤_, _<_}
+use mathlib.Core.Path.{_≡_, sym, ap, _∙_, subst}
+use Prim.Native.Nat.{ℕ, _+_, _%_, _≤_, _<_}
 use native.Mathlib.Omega.{arith}
-use mathlib.Core.Bool.{Bool, true, false, cond, _&&_}
+use mathlib.Core.Bool.{Bool, true, false}
 use mathlib.Core.List.{List}
-use lib.ListN.{length, getD, set, length-set}
-use lib.Dec.{eqb, ltb}
+use lib.ListN.{getD, set}
+use lib.Dec.{ltb}
 use borrow.Author.Tests.{lt-ltb, le-ltb, eq-eqb, ne-eqb}
-use Rattle.theory.specs.Records.{Record}
 use Rattle.tray.specs.Frame.{runCount, countOf, runBytes}
 use Rattle.tray.specs.Run.{recordAt}
 use Rattle.index.specs.declared.select.Head.{Head}
-use Rattle.index.specs.Scan.{Trail, lost, kept, nextIn, hasNext, names, raise, begins, joins}
+use Rattle.index.specs.Scan.{lost, kept, nextIn, hasNext, names, raise, begins, joins}
 use Rattle.index.specs.Scan.Code.{Reading, HeadOf, headed, aboveIn, stepOf, beginOf}
 use Rattle.index.specs.Scan.Code.Select.{begins-head, joins-head}
 

@@ -2,7 +2,6 @@
 use Rattle.next.specs.Answers.Code.{told-spot, told-is, next-ends, next-off, belongs-low}
 use Rattle.next.specs.Next.{going}
 use Rattle.walk.specs.Answers.Code.{walking}
-use native.Mathlib.Omega.{arith}
 use borrow.Author.Needs.{needs}
 use Rattle.next.proofs.calls.next_framed.Statement.{statement}
 use Rattle.next.proofs.calls.next_framed.Tie as tie

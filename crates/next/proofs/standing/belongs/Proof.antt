@@ -1,6 +1,5 @@
 -- `next::standing::belongs` meets its contract. Assumes nothing.
 use Rattle.next.specs.Standing.{belongs-there, belongs-past, belongs-beyond, belongs-inner, belongs-end}
-use native.Mathlib.Omega.{arith}
 use borrow.Author.Needs.{needs}
 use Rattle.next.proofs.standing.belongs.Statement.{statement}
 use Rattle.next.proofs.standing.belongs.Tie as tie

@@ -1,8 +1,6 @@
 -- `next::standing::higher` meets its contract. Assumes nothing.
 use borrow.Author.Tests.{lt-ltb, le-ltb}
 use mathlib.Core.Path.{sym}
-use native.Mathlib.Omega.{arith}
-use borrow.Author.Needs.{needs}
 use Rattle.next.proofs.standing.higher.Statement.{statement}
 use Rattle.next.proofs.standing.higher.Tie as tie
 use Rattle.next.proofs.standing.higher.Reads as reads

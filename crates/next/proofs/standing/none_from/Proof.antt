@@ -1,7 +1,7 @@
 -- `next::standing::none_from` meets its contract. Assumes nothing.
 use Rattle.next.specs.Standing.{noneFor, none-turn, none-end}
 use lib.Dec.{eqb}
-use Prim.Native.Nat.{_+_, _-_, _≤_}
+use Prim.Native.Nat.{_-_, _≤_}
 use mathlib.Core.Bool.{_&&_}
 use mathlib.Core.Path.{_≡_, refl, _∙_}
 use native.Mathlib.Omega.{arith}

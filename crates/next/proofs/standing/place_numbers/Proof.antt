@@ -2,7 +2,6 @@
 use Prim.Native.Nat.{_-_}
 use Rattle.next.specs.Standing.{Copying, copy-none, copy-more, copy-end}
 use native.Mathlib.Omega.{arith}
-use borrow.Author.Needs.{needs}
 use Rattle.next.proofs.standing.place_numbers.Statement.{statement}
 use Rattle.next.proofs.standing.place_numbers.Tie as tie
 use Rattle.next.proofs.standing.place_numbers.Reads as reads

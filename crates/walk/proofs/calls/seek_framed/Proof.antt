@@ -1,6 +1,5 @@
 use Rattle.walk.specs.Answers.Code.{walking, told-is}
 use mathlib.Core.Path.{sym}
-use native.Mathlib.Omega.{arith}
 use borrow.Author.Needs.{needs}
 use Rattle.walk.proofs.calls.seek_framed.Statement.{statement}
 use Rattle.walk.proofs.calls.seek_framed.Tie as tie

@@ -1,7 +1,5 @@
 use Rattle.walk.specs.Answers.{noCursor}
 use mathlib.Core.Path.{refl}
-use native.Mathlib.Omega.{arith}
-use borrow.Author.Needs.{needs}
 use Rattle.walk.proofs.calls.seek_refused.Statement.{statement}
 use Rattle.walk.proofs.calls.seek_refused.Tie as tie
 use Rattle.walk.proofs.calls.seek_refused.Reads as reads

@@ -1,6 +1,5 @@
 use Rattle.walk.specs.Answers.{toldAs}
 use mathlib.Core.Path.{ap, sym, _∙_}
-use native.Mathlib.Omega.{arith}
 use borrow.Author.Needs.{needs}
 use Rattle.walk.proofs.calls.told_seek.Statement.{statement}
 use Rattle.walk.proofs.calls.told_seek.Tie as tie
