@@ -2,7 +2,6 @@
 -- last one are a line too; at the start tray and index are empty). Assumes nothing.
 pub mod Code
 pub mod Laws
-pub mod Ready
 use Prim.Native.Nat.{ℕ, _+_, _%_, _^_}
 use mathlib.Core.Bool.{cond}
 use mathlib.Core.List.{List, [], _∷_, _++_}

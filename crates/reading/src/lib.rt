@@ -1,7 +1,5 @@
 // The lines of an input that comes in pieces, and their answers: what is carried from piece to piece, and what a piece adds. It neither reads nor
 // writes; what it does with any pieces is `feed`, as if all bytes came at once.
-pub mod program;
-
 use lines::Kept;
 use lines::answer_line;
 use lines::digits::copy;

@@ -1,10 +1,10 @@
--- `reading::program::read_some` meets its contract: where it goes on, one more answer line has room. Assumes nothing.
+-- `answering::read_some` meets its contract: where it goes on, one more answer line has room. Assumes nothing.
 use lib.Seq.{length-take-le}
 use mathlib.Core.Path.{sym}
 use native.Mathlib.Omega.{arith}
 use borrow.Author.Needs.{needs}
-use Rattle.reading.proofs.program.read_some.Statement.{statement}
-use Rattle.reading.proofs.program.read_some.Tie as tie
+use Rattle.answering.proofs.read_some.Statement.{statement}
+use Rattle.answering.proofs.read_some.Tie as tie
 
 read-requires : tie.Need-read-requires
 read-requires c κs = search needs

@@ -1,10 +1,10 @@
--- `reading::program::read_all` is safe and ends. Invariant: one more answer line has room. Measure: the turns left. Assumes nothing.
+-- `answering::read_all` is safe and ends. Invariant: one more answer line has room. Measure: the turns left. Assumes nothing.
 use lib.ListN.{length}
 use mathlib.Core.Path.{_≡_, refl, sym, _∙_}
-use Rattle.reading.specs.Feed.Ready.{Ready, ready-first}
+use Rattle.answering.specs.Ready.{Ready, ready-first}
 use native.Mathlib.Omega.{arith}
-use Rattle.reading.proofs.program.read_all.Statement.{statement}
-use Rattle.reading.proofs.program.read_all.Tie as tie
+use Rattle.answering.proofs.read_all.Statement.{statement}
+use Rattle.answering.proofs.read_all.Tie as tie
 
 abbrev Inv-loop : tie.InvT-loop
 Inv-loop input₀ line₀ tray₀ index₀ frame₀ room₀ output₀ state₀ turns₀ input line tray index frame room output state turns =

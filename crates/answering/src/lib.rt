@@ -1,16 +1,16 @@
 // The program: standard input to its end, in whatever pieces the system hands out, and the answer lines to standard output in large writes. No
 // contract can say what is read or written; what happens in between is `take_lines` and `finish`.
-use crate::Carried;
-use crate::finish;
-use crate::take_lines;
 use libc::STDIN_FILENO;
 use libc::STDOUT_FILENO;
 use lines::Kept;
+use reading::Carried;
+use reading::finish;
+use reading::take_lines;
 ghost use mathlib.Core.Path.{_≡_};
 ghost use mathlib.Core.Bool.{true};
 ghost use Prim.Native.Nat.{_≤_};
 ghost use lib.ListN.{length};
-ghost use Rattle.reading.specs.Feed.Ready.{Buffers, Ready, Room};
+ghost use Rattle.answering.specs.Ready.{Buffers, Ready, Room};
 
 // What is carried, and whether there is more to do.
 pub struct Served {
