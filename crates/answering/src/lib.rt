@@ -2,8 +2,8 @@
 // contract can say what is read or written; what happens in between is `take_lines` and `finish`.
 use libc::STDIN_FILENO;
 use libc::STDOUT_FILENO;
-use lines::Kept;
 use reading::Carried;
+use reading::begin;
 use reading::finish;
 use reading::take_lines;
 ghost use mathlib.Core.Path.{_≡_};
@@ -143,12 +143,7 @@ fn read_all(
 )
     requires { ⌜ Buffers (now line) (now tray) (now index) (now frame) (now room) (now output) ⌝ }
 {
-    let mut state = Carried {
-        kept: Kept { tray: 0, index: 0 },
-        number: 1,
-        gathered: 0,
-        filled: 0,
-    };
+    let mut state = begin();
     let mut turns = u64::MAX;
     while turns > 0 {
         let served = read_some(state, input, line, tray, index, frame, room, output);
