@@ -1,6 +1,8 @@
 -- `reading::end_line` meets its contract: the line is the part alone, or what was gathered and the part. Assumes nothing.
-use Rattle.lines.specs.Line.Code.{front-length}
+use lib.Seq.{length-take-le}
+use mathlib.Core.Path.{sym}
 use Rattle.reading.specs.Feed.Code.{ends-whole, ends-gathered}
+use native.Mathlib.Omega.{arith}
 use borrow.Author.Needs.{needs}
 use Rattle.reading.proofs.end_line.Statement.{statement}
 use Rattle.reading.proofs.end_line.Tie as tie
@@ -33,7 +35,7 @@ slice-reshare-prefix-answer : tie.Need-slice-reshare-prefix-answer
 slice-reshare-prefix-answer c = search needs
 
 slice-aggregate-answer : tie.Need-slice-aggregate-answer
-slice-aggregate-answer c = front-length (c .before .before .before .gather .ensures)
+slice-aggregate-answer c = sym (length-take-le _ _ (omega (arith, c .before .before .before .gather .ensures .fits, c .before .before .before .gather .ensures .room-is, c .before .before .before .before .before .before .before .before .before .before .before .before .before .pre .1)))
 
 answer-requires-2 : tie.Need-answer-requires-2
 answer-requires-2 c κs = search needs
