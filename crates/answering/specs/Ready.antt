@@ -29,6 +29,7 @@ pub record Ready (carried : Carried) (line tray index frame room output : List �
 -- what is carried, with room made
 pub record Room (carried after : Carried) : Type 0 where
   pub same-kept : after .kept ≡ carried .kept
+  pub same-number : after .number ≡ carried .number
   pub same-gathered : after .gathered ≡ carried .gathered
   pub low : after .filled ≤ lastRoom
 
