@@ -1,19 +1,16 @@
 // Runs the boundary cases of document 01 through the public calls, a line a case.
-mod fill;
-mod tell;
-
-use crate::fill::put_records;
-use crate::fill::put_tray;
-use crate::tell::more;
-use crate::tell::tell_build;
-use crate::tell::tell_fold;
-use crate::tell::tell_get;
-use crate::tell::tell_index;
-use crate::tell::tell_next;
-use crate::tell::tell_page;
-use crate::tell::tell_seek;
-use crate::tell::tell_sheet;
-use crate::tell::tell_tray;
+use telling::fill::put_records;
+use telling::fill::put_tray;
+use telling::tell::more;
+use telling::tell::tell_build;
+use telling::tell::tell_fold;
+use telling::tell::tell_get;
+use telling::tell::tell_index;
+use telling::tell::tell_next;
+use telling::tell::tell_page;
+use telling::tell::tell_seek;
+use telling::tell::tell_sheet;
+use telling::tell::tell_tray;
 ghost use Prim.Native.Nat.{_<_, _≤_};
 ghost use lib.ListN.{length};
 

@@ -4,7 +4,7 @@ pub mod Front
 pub mod Code
 pub mod Turns
 pub mod Theorems
-mod Cases
+pub mod Cases
 use Prim.Native.Nat.{ℕ, _+_, _%_}
 use mathlib.Core.Bool.{Bool, true, cond, _&&_}
 use mathlib.Core.List.{List, [], _∷_, _++_}

@@ -1,8 +1,8 @@
 -- What the program has kept and said, byte by byte of its input (document 01, "The program `drawer`": a line feed ends a line; bytes after the
 -- last one are a line too; at the start tray and index are empty). Assumes nothing.
+mod Cases
 pub mod Code
 pub mod Laws
-pub mod Ready
 use Prim.Native.Nat.{ℕ, _+_, _%_, _^_}
 use mathlib.Core.Bool.{cond}
 use mathlib.Core.List.{List, [], _∷_, _++_}

@@ -1,7 +1,5 @@
 // The lines of an input that comes in pieces, and their answers: what is carried from piece to piece, and what a piece adds. It neither reads nor
 // writes; what it does with any pieces is `feed`, as if all bytes came at once.
-pub mod program;
-
 use lines::Kept;
 use lines::answer_line;
 use lines::digits::copy;
@@ -10,7 +8,7 @@ ghost use Prim.Native.Nat.{_≤_};
 ghost use mathlib.Core.List.{_++_};
 ghost use lib.ListN.{length, take};
 ghost use Rattle.lines.specs.Line.Front.{Front};
-ghost use Rattle.reading.specs.Feed.Code.{gatherSize, lastRoom, LineEnd, Rooms, Answers, Ends, Takes, Finishes};
+ghost use Rattle.reading.specs.Feed.Code.{gatherSize, lastRoom, first, LineEnd, Rooms, Answers, Ends, Takes, Finishes};
 
 // What is carried: the kept tray and index, the number of the line that is being read, how many of its characters are gathered, and how much of
 // the output is filled.
@@ -25,6 +23,18 @@ pub struct Carried {
 pub struct Taken {
     pub carried: Carried,
     pub at: usize,
+}
+
+// What is carried before the first byte of an input.
+pub fn begin() -> Carried
+    ensures { λ r. ⌜ r ≡ first ⌝ }
+{
+    Carried {
+        kept: Kept { tray: 0, index: 0 },
+        number: 1,
+        gathered: 0,
+        filled: 0,
+    }
 }
 
 // Where the line ends that goes on at a place: at its line feed, or where the piece ends.

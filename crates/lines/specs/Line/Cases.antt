@@ -29,17 +29,17 @@ use Rattle.lines.specs.Hex.{isDigit, digitOf, digit, allDigits, bytesIn,
 use Rattle.lines.specs.Line.{Turn, answer, refusal, badAnswer, afterTray, afterBuild, afterGet, afterSheet, formed, known, frameTurn, turn, answerLine}
 
 -- a text as its characters
-pub chars : String → List ℕ
+unfoldable pub chars : String → List ℕ
 chars none = []
 chars (c then s) = code c ∷ chars s
 
 -- the bytes that a text spells
-pub spelt : String → List ℕ
+unfoldable pub spelt : String → List ℕ
 unfolding chars bytesIn digitOf listed
 spelt s = bytesIn (chars s)
 
 -- a turn with all that it computes by: to unfold it is to unfold them
-pub taken : List ℕ → List ℕ → ℕ → List ℕ → Turn
+unfoldable pub taken : List ℕ → List ℕ → ℕ → List ℕ → Turn
 unfolding chars spelt
     turn frameTurn known formed afterTray afterBuild afterGet afterSheet badAnswer refusal answer allDigits isDigit bytesIn digitOf listed bytesOf be
     checkTray checkRuns afterRun judgeFrom kindWrong keyWrong recordFrom framed headerFits countsFit runCount countOf recordsBefore startOf runBytes

@@ -18,7 +18,7 @@ use Rattle.lines.specs.Line.Turns.{Answered}
 use Rattle.lines.specs.Line.Theorems.{turn-front}
 use Rattle.reading.specs.declared.Carried.{Carried}
 use Rattle.reading.specs.declared.Taken.{Taken}
-use Rattle.reading.specs.Feed.{Progress, ended, more, feed, finished}
+use Rattle.reading.specs.Feed.{Progress, begun, ended, more, feed, finished}
 use Rattle.reading.specs.Feed.Laws.{Plain, feed-append, feed-more, feed-line}
 
 -- as many characters as tell an over-long line
@@ -31,6 +31,10 @@ outputSize = 262144
 
 abbrev pub lastRoom : ℕ
 lastRoom = 196595
+
+-- what is carried before the first byte
+abbrev pub first : Carried
+first = record { kept = record { tray = 0; index = 0 }; number = 1; gathered = 0; filled = 0 }
 
 -- where a line ends: no line feed before, and there one, or the end of the piece
 pub record LineEnd (piece : List ℕ) (from r : ℕ) : Type 0 where
@@ -87,6 +91,15 @@ pub record Keeps (carried : Carried) (tray index output : List ℕ) (p : Progres
 pub record Stands (carried : Carried) (line tray index output : List ℕ) (p : Progress) : Type 0 where
   pub keeps : Keeps carried tray index output p
   pub gathers : Front (carried .gathered) gatherSize line (take gatherSize (p .line))
+
+-- before the first byte it is where all begins
+pub first-begun : (line tray index output : List ℕ) → length line ≡ gatherSize → Stands first line tray index output begun
+unfolding begun
+first-begun line tray index output room =
+    record {
+      keeps = record { keeps-tray = refl; keeps-index = refl; keeps-number = refl; keeps-said = refl };
+      gathers = front-none gatherSize line room;
+    }
 
 -- a line has taken its turn
 pub record Answers (line : List ℕ) (carried : Carried) (tray index output : List ℕ) (after : Carried) (tray₁ index₁ output₁ : List ℕ) : Type 0 where

@@ -1,16 +1,16 @@
 // The program: standard input to its end, in whatever pieces the system hands out, and the answer lines to standard output in large writes. No
 // contract can say what is read or written; what happens in between is `take_lines` and `finish`.
-use crate::Carried;
-use crate::finish;
-use crate::take_lines;
 use libc::STDIN_FILENO;
 use libc::STDOUT_FILENO;
-use lines::Kept;
+use reading::Carried;
+use reading::begin;
+use reading::finish;
+use reading::take_lines;
 ghost use mathlib.Core.Path.{_≡_};
 ghost use mathlib.Core.Bool.{true};
 ghost use Prim.Native.Nat.{_≤_};
 ghost use lib.ListN.{length};
-ghost use Rattle.reading.specs.Feed.Ready.{Buffers, Ready, Room};
+ghost use Rattle.answering.specs.Ready.{Buffers, Ready, Room};
 
 // What is carried, and whether there is more to do.
 pub struct Served {
@@ -143,12 +143,7 @@ fn read_all(
 )
     requires { ⌜ Buffers (now line) (now tray) (now index) (now frame) (now room) (now output) ⌝ }
 {
-    let mut state = Carried {
-        kept: Kept { tray: 0, index: 0 },
-        number: 1,
-        gathered: 0,
-        filled: 0,
-    };
+    let mut state = begin();
     let mut turns = u64::MAX;
     while turns > 0 {
         let served = read_some(state, input, line, tray, index, frame, room, output);

@@ -1,11 +1,11 @@
--- `reading::program::serve` meets its contract. Invariant: one more answer line has room. Measure: the bytes left of the piece. Assumes nothing.
+-- `answering::serve` meets its contract. Invariant: one more answer line has room. Measure: the bytes left of the piece. Assumes nothing.
 use Prim.Native.Nat.{_-_, _≤_}
 use lib.ListN.{length}
 use mathlib.Core.Path.{sym, _∙_}
-use Rattle.reading.specs.Feed.Ready.{Ready, ready-room}
+use Rattle.answering.specs.Ready.{Ready, ready-room}
 use native.Mathlib.Omega.{arith}
-use Rattle.reading.proofs.program.serve.Statement.{statement}
-use Rattle.reading.proofs.program.serve.Tie as tie
+use Rattle.answering.proofs.serve.Statement.{statement}
+use Rattle.answering.proofs.serve.Tie as tie
 
 abbrev Inv-loop : tie.InvT-loop
 Inv-loop piece line₀ tray₀ index₀ frame₀ room₀ output₀ n state₀ at₀ line tray index frame room output state at =

@@ -7,8 +7,8 @@ use lib.ListN.{length}
 use Rattle.lines.specs.declared.Kept.{Kept}
 use Rattle.lines.specs.Line.{roomSize}
 use Rattle.lines.specs.Line.Front.{traySize}
 use Rattle.reading.specs.declared.Carried.{Carried}
-use Rattle.reading.specs.Feed.Code.{gatherSize, outputSize, lastRoom, Rooms}
+use Rattle.reading.specs.Feed.Code.{gatherSize, outputSize, lastRoom, first, Rooms}
 
 -- the buffers
 pub record Buffers (line tray index frame room output : List ℕ) : Type 0 where
@@ -29,14 +29,16 @@ pub record Ready (carried : Carried) (line tray index frame room output : List �
 -- what is carried, with room made
 pub record Room (carried after : Carried) : Type 0 where
   pub same-kept : after .kept ≡ carried .kept
+  pub same-number : after .number ≡ carried .number
   pub same-gathered : after .gathered ≡ carried .gathered
   pub low : after .filled ≤ lastRoom
 
 -- at the start
-pub ready-first : {line tray index frame room output : List ℕ} → Buffers line tray index frame room output
-    → Ready (record { kept = record { tray = 0; index = 0 }; number = 1; gathered = 0; filled = 0 }) line tray index frame room output
-ready-first b =
-    record {
+pub ready-first : {carried : Carried} {line tray index frame room output : List ℕ} → carried ≡ first → Buffers line tray index frame room output
+    → Ready carried line tray index frame room output
+ready-first is b =
+    rw is
+    (record {
       rooms = record {
         tray-room = b .tray-room;
         index-room = b .index-room;
@@ -50,7 +52,7 @@ ready-first b =
       line-room = b .line-room;
       gathers = omega arith;
       low = omega arith;
-    }
+    })
 
 -- once room is made
 pub ready-room : {carried after : Carried} {line tray index frame room output : List ℕ} → Rooms carried tray index frame room output

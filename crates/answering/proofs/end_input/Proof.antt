@@ -1,10 +1,10 @@
--- `reading::program::end_input` is safe: what is filled lies within the output. Assumes nothing.
+-- `answering::end_input` is safe: what is filled lies within the output. Assumes nothing.
 use lib.Seq.{length-take-le}
 use mathlib.Core.Path.{sym}
 use native.Mathlib.Omega.{arith}
 use borrow.Author.Needs.{needs}
-use Rattle.reading.proofs.program.end_input.Statement.{statement}
-use Rattle.reading.proofs.program.end_input.Tie as tie
+use Rattle.answering.proofs.end_input.Statement.{statement}
+use Rattle.answering.proofs.end_input.Tie as tie
 
 finish-requires : tie.Need-finish-requires
 finish-requires c κs = search needs

@@ -1,9 +1,9 @@
--- `reading::program::make_room` meets its contract: what is carried stays, but for what is written. Assumes nothing.
+-- `answering::make_room` meets its contract: what is carried stays, but for what is written. Assumes nothing.
 use lib.Seq.{length-take-le}
 use mathlib.Core.Path.{sym}
 use borrow.Author.Needs.{needs}
-use Rattle.reading.proofs.program.make_room.Statement.{statement}
-use Rattle.reading.proofs.program.make_room.Tie as tie
+use Rattle.answering.proofs.make_room.Statement.{statement}
+use Rattle.answering.proofs.make_room.Tie as tie
 
 returns : tie.Need-returns
 returns c = search needs
