@@ -3,6 +3,7 @@
 --     only-cut                             the run cut out of the tray
 --     only-key, only-spelled               its next key and its next selector, as they are read from the run's own bytes
 --     only-more, only-end, only-over       its records, one by one
+--     only-segment                         a segment of them
 -- Assumes nothing.
 use mathlib.Core.Path.{_≡_, refl, sym, ap, _∙_, subst}
 use Prim.Native.Nat.{ℕ, _+_, _≤_, _<_}
@@ -18,7 +19,7 @@ use Rattle.index.specs.Scan.Code.{Reading}
 use Rattle.heads.specs.Heads.{nextKey}
 use Rattle.heads.specs.Heads.Laws.{RunCut, run-cut}
 use Rattle.heads.specs.Heads.Leads.{NextRun, NoRun, LeastKey}
-use Rattle.records.specs.Code.{spelling, oldMark, putNext, Stopped, Fills}
+use Rattle.records.specs.Code.{spelling, oldMark, putNext, Stopped, Fills, Segmented}
 use Rattle.records.specs.Code.Records.{spelled, Putting, putting-more, putting-end, fills-over}
 
 module _ (t places : List ℕ) where
@@ -71,3 +72,7 @@ module _ {t places₀ seg₀ places seg : List ℕ} {from first to at last : ℕ
 pub only-over : {t places seg places₁ seg′ : List ℕ} {from first first′ to at last : ℕ} → first ≡ first′ → Stopped t 1 places seg from first to places₁ seg′ at last
     → countOf t 0 ≤ getD places₁ 0 0 → Fills t 1 places seg from first′ to places₁ seg′ at
 only-over {t} {places₁ = places₁} f s l = fills-over f s (over-only t places₁ l)
+
+-- a segment of the run
+pub only-segment : {t places seg places′ seg′ : List ℕ} {h d n : ℕ} → h ≡ 1 → Segmented t 1 d places seg places′ seg′ n → Segmented t h d places seg places′ seg′ n
+only-segment {t} {places} {seg} {places′} {seg′} {d = d} {n} e s = subst (λ (h : ℕ). Segmented t h d places seg places′ seg′ n) (sym e) s
