@@ -1,10 +1,13 @@
 // One segment: its anchor, its offsets, the selectors of its records, and placeholders to its end.
+use heads::head_key;
 use heads::lead::fill_heads;
 use heads::lead::leader;
 use number::put2;
 use number::put8;
 use number::wide_size;
+use records::only::put_only;
 use records::put_keys;
+use tray::Place;
 ghost use mathlib.Core.Path.{_≡_};
 ghost use Prim.Native.Nat.{_+_, _*_, _-_, _≤_};
 ghost use lib.ListN.{length, replicate};
@@ -81,6 +84,30 @@ fn put_segment(
     end - from
 }
 
+// A segment of a tray with one run: how many records it has.
+fn write_only(
+    t: &[u8],
+    d: u8,
+    counts: &[u16],
+    starts: &[usize],
+    places: &mut [u16],
+    seg: &mut [u8],
+) -> usize
+    requires { ⌜ Reading (now t) (now counts) (now starts) (now places) ⌝ }
+    requires { ⌜ (runCount (now t) ≡ 1) × (length (now seg) ≡ 10 + d) ⌝ }
+    ensures { λ n. ⌜ Segmented (now (t .entry)) 1 d (now (places .entry)) (now (seg .entry)) (now (places .exit)) (now (seg .exit)) n ⌝ }
+{
+    let a = starts[0];
+    let e = starts[1];
+    let anchor = head_key(&t[a..e], counts[0], Place(places[0]));
+    put8(seg, 0, anchor);
+    put_offsets(seg, places, 1);
+    let to = 10 + wide_size(d);
+    let end = put_only(t, counts, starts, seg, 10, to, anchor, places);
+    put_placeholders(seg, end, to);
+    end - 10
+}
+
 // The next segment, into its own stretch of the output: how many records it has.
 pub fn write_segment(
     t: &[u8],
@@ -96,6 +123,9 @@ pub fn write_segment(
     ensures { λ n. ⌜ Segmented (now (t .entry)) h d (now (places .entry)) (now (seg .entry)) (now (places .exit)) (now (seg .exit)) n ⌝ }
     ensures { λ _. ⌜ Reading (now (t .entry)) (now (counts .entry)) (now (starts .entry)) (now (places .exit)) ⌝ }
 {
+    if h == 1 {
+        return write_only(t, d, counts, starts, places, seg);
+    }
     let mut keys = [18446744073709551615u64; 64];
     let mut nexts = [0u64; 64];
     let mut tops = [0u64; 8];

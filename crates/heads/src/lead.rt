@@ -14,7 +14,7 @@ ghost use Rattle.tray.specs.Frame.{runCount, countOf};
 ghost use Rattle.index.specs.Scan.Code.{Reading};
 ghost use Rattle.index.specs.Scan.{raise};
 ghost use Rattle.heads.specs.Heads.{keyOr, Padded};
-ghost use Rattle.heads.specs.Heads.Leads.{First, Topped, Kept, Leading, Ahead, Nexts, Heading, FirstLeft, Chosen};
+ghost use Rattle.heads.specs.Heads.Leads.{First, Half, Topped, Kept, Leading, Ahead, Nexts, Heading, FirstLeft, Chosen};
 
 // A key, and the first run that has it.
 pub struct Lead {
@@ -60,11 +60,17 @@ fn eight(keys: &[u64], r: u8) -> Lead
     ahead(four(keys, r), four(keys, r + 4))
 }
 
-// The first of block b, kept.
-fn keep(keys: &[u64], b: u8, tops: &mut [u64], firsts: &mut [u8])
-    requires { ⌜ (length (now keys) ≡ 64) × (b < 8) × (length (now tops) ≡ 8) × (length (now firsts) ≡ 8) ⌝ }
+// The first of block b, kept, of h runs in all. Up to four are the first half of the one block.
+fn keep(keys: &[u64], h: u8, b: u8, tops: &mut [u64], firsts: &mut [u8])
+    requires { ⌜ (length (now keys) ≡ 64) × (b < 8) × (length (now tops) ≡ 8) × (length (now firsts) ≡ 8) × Half (now keys) h b ⌝ }
     ensures { λ _. ⌜ Kept (now (keys .entry)) b (now (tops .entry)) (now (firsts .entry)) (now (tops .exit)) (now (firsts .exit)) ⌝ }
 {
+    if h <= 4 {
+        let m = four(keys, 0);
+        tops[0] = m.key;
+        firsts[0] = m.run;
+        return;
+    }
     let l = eight(keys, 8 * b);
     let i = wide_size(b);
     tops[i] = l.key;
@@ -165,7 +171,7 @@ fn fill_firsts(keys: &[u64], tops: &mut [u64], firsts: &mut [u8])
 {
     let mut b: u8 = 0;
     while b < 8 {
-        keep(keys, b, tops, firsts);
+        keep(keys, 63, b, tops, firsts);
         b += 1;
     }
 }
@@ -216,5 +222,5 @@ pub fn advance(
     keys[i] = nexts[i];
     nexts[i] = key_after(&t[a..e], counts[i], Place(p));
     places[i] = p;
-    keep(keys, n / 8, tops, firsts);
+    keep(keys, t[0], n / 8, tops, firsts);
 }

@@ -12,7 +12,7 @@ ghost use Rattle.index.specs.Scan.Code.{Reading};
 ghost use Rattle.heads.specs.Heads.{keyOr, Padded, Caching};
 
 // The key at a place of a run of n records, or the highest number past its end.
-fn head_key(run: &[u8], n: u16, p: Place) -> u64
+pub fn head_key(run: &[u8], n: u16, p: Place) -> u64
     requires { ⌜ length (now run) ≡ 25 * n ⌝ }
     ensures { λ k. ⌜ k ≡ keyOr (now (run .entry)) n (p .0) ⌝ }
 {

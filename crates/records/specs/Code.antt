@@ -1,6 +1,7 @@
 -- What the functions of the builder promise each other: how the records of a segment are taken and written. The laws stand below.
 -- Assumes nothing.
 pub mod Merge
+pub mod Only
 pub mod Records
 pub mod Spelled
 pub mod Taken
@@ -28,6 +29,10 @@ spelling t places mark r = r + (mark + cond (live (nextIn t places r)) 0 64)
 -- the mark of a record with key k after one with key `last`
 unfoldable pub oldMark : ℕ → ℕ → ℕ
 oldMark last k = cond (eqb last k) 128 0
+
+-- the selector of the first run's next record, which has key k, written at a place after a record with key `last`
+unfoldable pub putNext : List ℕ → List ℕ → List ℕ → ℕ → ℕ → ℕ → List ℕ
+putNext t places seg at last k = set seg at (spelling t places (oldMark last k) 0)
 
 -- a key that is not k
 unfoldable pub otherKey : ℕ → ℕ

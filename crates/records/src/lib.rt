@@ -1,4 +1,6 @@
 // The records of a segment: taken one by one in the order of the view, and written as selectors.
+pub mod only;
+
 use heads::lead::advance;
 use heads::lead::choose;
 use heads::lead::leader;

@@ -23,6 +23,11 @@ pub record Topped (tops firsts : List ℕ) (a e k r : ℕ) : Type 0 where
   pub first : First tops a e k block
   pub run : getD firsts block 0 ≡ r
 
+-- where there are up to four runs, block b is the first one, and they are its first half
+pub record Half (keys : List ℕ) (h b : ℕ) : Type 0 where
+  pub only : h ≤ 4 → b ≡ 0
+  pub past : h ≤ 4 → (i : ℕ) → 4 ≤ i → i < 8 → getD keys i 0 ≡ highest
+
 -- the first of block b has been kept
 pub record Kept (keys : List ℕ) (b : ℕ) (tops firsts tops′ firsts′ : List ℕ) : Type 0 where
   pub key : ℕ

@@ -19,7 +19,7 @@ use Rattle.tray.specs.Frame.{runBytes}
 use Rattle.tray.specs.Run.{recordAt}
 use Rattle.index.specs.Scan.{nextIn, raise}
 use Rattle.index.specs.Scan.Code.{Reading}
-use Rattle.heads.specs.Heads.Leads.{Heading, NextRun, NoRun}
+use Rattle.heads.specs.Heads.Leads.{NextRun, NoRun}
 use Rattle.records.specs.Code.{spelling, oldMark, otherKey, Steps, none, more, Stopped, over, other, stop, lower, back, Fills, ends, cuts}
 
 -- the marks
@@ -57,26 +57,23 @@ spelled t places mark {run} {r} {i} {kind} e b p m =
     ap (λ (n : ℕ). r + (mark + n)) (m ∙ ap (λ (n : ℕ). cond (eqb n 0) 0 64) whole)
 
 -- records have been written as far as a place
-pub record Putting (t : List ℕ) (h : ℕ) (counts starts places₀ seg₀ : List ℕ) (from first to : ℕ) (places keys nexts tops firsts seg : List ℕ) (at last : ℕ) : Type 0 where
-  pub heading : Heading t counts starts places keys nexts tops firsts
+pub record Putting (t : List ℕ) (h : ℕ) (places₀ seg₀ : List ℕ) (from first to : ℕ) (places seg : List ℕ) (at last : ℕ) : Type 0 where
   pub steps : Steps t h places₀ seg₀ from first places seg at last
   pub begun : from ≤ at
   pub inside : at ≤ to
   pub room : length seg ≡ length seg₀
 
-pub putting-none : {t counts starts places keys nexts tops firsts seg : List ℕ} {h from first to : ℕ} → Heading t counts starts places keys nexts tops firsts → from ≤ to
-    → Putting t h counts starts places seg from first to places keys nexts tops firsts seg from first
-putting-none g l = record { heading = g; steps = none; begun = omega arith; inside = l; room = refl }
+pub putting-none : {t places seg : List ℕ} {h from first to : ℕ} → from ≤ to → Putting t h places seg from first to places seg from first
+putting-none l = record { steps = none; begun = omega arith; inside = l; room = refl }
 
-pub putting-more : {t counts starts places₀ seg₀ places keys nexts tops firsts seg places′ keys′ nexts′ tops′ firsts′ : List ℕ} {h from first to at last r k mark v : ℕ}
-    → Putting t h counts starts places₀ seg₀ from first to places keys nexts tops firsts seg at last → at < to → to ≤ length seg₀ → NextRun t h places r k
-    → mark ≡ oldMark last k → v ≡ spelling t places mark r → places′ ≡ raise places r → Heading t counts starts places′ keys′ nexts′ tops′ firsts′
-    → Putting t h counts starts places₀ seg₀ from first to places′ keys′ nexts′ tops′ firsts′ (set seg at v) (at + 1) k
-putting-more {t} {places₀ = places₀} {seg₀} {places} {seg = seg} {places′} {h = h} {from} {first} {at = at} {last} {r} {k} {v = v} w l m n mark-is v-is places-are g =
+pub putting-more : {t places₀ seg₀ places seg places′ : List ℕ} {h from first to at last r k mark v : ℕ}
+    → Putting t h places₀ seg₀ from first to places seg at last → at < to → to ≤ length seg₀ → NextRun t h places r k
+    → mark ≡ oldMark last k → v ≡ spelling t places mark r → places′ ≡ raise places r
+    → Putting t h places₀ seg₀ from first to places′ (set seg at v) (at + 1) k
+putting-more {t} {places₀} {seg₀} {places} {seg} {places′} {h} {from} {first} {at = at} {last} {r} {k} {v = v} w l m n mark-is v-is places-are =
     let there : at < length seg = omega (arith, w .room) in
     let same : v ≡ spelling t places (oldMark last k) r = v-is ∙ ap (λ (x : ℕ). spelling t places x r) mark-is in
     record {
-      heading = g;
       steps =
           subst (λ (x : ℕ). Steps t h places₀ seg₀ from first places′ (set seg at x) (at + 1) k) (sym same)
           (subst (λ (ps : List ℕ). Steps t h places₀ seg₀ from first ps (set seg at (spelling t places (oldMark last k) r)) (at + 1) k) (sym places-are) (more (w .steps) n there));
@@ -85,8 +82,8 @@ putting-more {t} {places₀ = places₀} {seg₀} {places} {seg = seg} {places�
       room = simp length-set (w .room);
     }
 
-pub putting-end : {t counts starts places₀ seg₀ places keys nexts tops firsts seg : List ℕ} {h from first to at last : ℕ}
-    → Putting t h counts starts places₀ seg₀ from first to places keys nexts tops firsts seg at last → (at < to → NoRun t h places)
+pub putting-end : {t places₀ seg₀ places seg : List ℕ} {h from first to at last : ℕ}
+    → Putting t h places₀ seg₀ from first to places seg at last → (at < to → NoRun t h places)
     → Stopped t h places₀ seg₀ from first to places seg at last
 putting-end w n = record { steps = w .steps; begun = w .begun; inside = w .inside; all = n }
 

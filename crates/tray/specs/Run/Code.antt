@@ -3,7 +3,7 @@
 --     kind-live, kind-gone, kind-other   a record's kind, told by its byte
 --     Last, last-none, last-more         the key before a place
 --     key-fine, key-bad                  a key, told by the last one
---     key-is, run-kind, run-key, run-next, last-next    a turn of the loop over a run
+--     key-is, last-next, run-kind, -key, -next, -live    a turn of the loop over a run
 --     value-is                           a value, written by its halves
 -- Assumes nothing.
 use mathlib.Core.Path.{_≡_, refl, sym, ap, ap₂, _∙_}
@@ -105,25 +105,32 @@ module _ (run : List ℕ) where
       let k : key ≤ last = ltb-false last key (or-left _ _ t) in
       le-leb (recordAt run (suc q) .key) (recordAt run q .key) (omega arith)
 
-  -- the loop stands at place p, which starts at byte `at`; kr and yr are what the two tests answered
-  module _ {n p at : ℕ} {kr : Bool} (l : p < n) (stands : at ≡ 25 * p) (told : kr ≡ not (kindWrong (recordFrom run at))) where
-    kind-is : kr ≡ not (kindWrong (recordAt run p))
-    kind-is = told ∙ ap (λ (a : ℕ). not (kindWrong (recordFrom run a))) stands
+  -- the loop stands at place p, which starts at byte `at`
+  module _ (p : ℕ) {at : ℕ} (stands : at ≡ 25 * p) where
+    -- the key that was read is the place's
+    pub key-is : {key : ℕ} → key ≡ be 8 run at → key ≡ recordAt run p .key
+    unfolding recordFrom
+    key-is read = read ∙ ap (be 8 run) stands
 
-    pub run-kind : kr ≡ false → judgeFrom (n - p) run p ≡ WrongKind (place p)
-    run-kind e = judge-kind run n p l (not-false _ (sym kind-is ∙ e))
+    pub last-next : {key : ℕ} → key ≡ be 8 run at → Last (p + 1) key
+    last-next read = last-more p (key-is read)
 
-    module _ {last key : ℕ} {yr : Bool} (right : kr ≡ true) (read : key ≡ be 8 run at) (before : Last p last) (told-key : yr ≡ (ltb last key || eqb p 0)) where
-      -- the key that was read is the place's
-      pub key-is : key ≡ recordAt run p .key
-      unfolding recordFrom
-      key-is = read ∙ ap (be 8 run) stands
+    -- kr and yr are what the two tests answered
+    module _ {n : ℕ} {kr : Bool} (l : p < n) (told : kr ≡ not (kindWrong (recordFrom run at))) where
+      kind-is : kr ≡ not (kindWrong (recordAt run p))
+      kind-is = told ∙ ap (λ (a : ℕ). not (kindWrong (recordFrom run a))) stands
 
-      pub run-key : yr ≡ false → judgeFrom (n - p) run p ≡ WrongKey (place p)
-      run-key e = judge-key run n p l (not-true _ (sym kind-is ∙ right)) (key-bad p key-is before (sym told-key ∙ e))
+      pub run-kind : kr ≡ false → judgeFrom (n - p) run p ≡ WrongKind (place p)
+      run-kind e = judge-kind run n p l (not-false _ (sym kind-is ∙ e))
 
-      pub run-next : yr ≡ true → judgeFrom (n - p) run p ≡ judgeFrom (n - (p + 1)) run (p + 1)
-      run-next e = judge-next run n p l (not-true _ (sym kind-is ∙ right)) (key-fine p key-is before (sym told-key ∙ e))
+      module _ {last key : ℕ} {yr : Bool} (right : kr ≡ true) (read : key ≡ be 8 run at) (before : Last p last) (told-key : yr ≡ (ltb last key || eqb p 0)) where
+        pub run-key : yr ≡ false → judgeFrom (n - p) run p ≡ WrongKey (place p)
+        run-key e = judge-key run n p l (not-true _ (sym kind-is ∙ right)) (key-bad p (key-is read) before (sym told-key ∙ e))
 
-      pub last-next : Last (p + 1) key
-      last-next = last-more p key-is
+        pub run-next : yr ≡ true → judgeFrom (n - p) run p ≡ judgeFrom (n - (p + 1)) run (p + 1)
+        run-next e = judge-next run n p l (not-true _ (sym kind-is ∙ right)) (key-fine p (key-is read) before (sym told-key ∙ e))
+
+    -- a live record above the last one
+    pub run-live : {n last key : ℕ} → p < n → getD run (at + 8) 0 ≡ 0 → key ≡ be 8 run at → Last p last → last < key
+        → judgeFrom (n - p) run p ≡ judgeFrom (n - (p + 1)) run (p + 1)
+    run-live {last = last} {key} l live read before above = run-next l (kind-live run at live) refl read before refl (rw (lt-ltb last key above) refl)

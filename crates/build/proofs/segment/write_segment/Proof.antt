@@ -1,5 +1,6 @@
 -- `build::segment::write_segment` meets its contract. Assumes nothing.
 use mathlib.Core.Path.{refl}
+use Rattle.records.specs.Code.Only.{only-segment}
 use Rattle.records.specs.Code.Records.{reading-on}
 use Rattle.build.specs.Code.Loops.{padded-none}
 use native.Mathlib.Omega.{arith}
@@ -9,7 +10,20 @@ use Rattle.build.proofs.segment.write_segment.Tie as tie
 use Rattle.build.proofs.segment.write_segment.Reads as reads
 use Rattle.build.proofs.segment.write_segment.Lts as lts
 use Rattle.build.proofs.segment.put_segment.Reads as put-segment-reads
+use Rattle.build.proofs.segment.write_only.Reads as write-only-reads
 use Rattle.heads.proofs.lead.fill_heads.Reads as fill-heads-reads
+
+write-only-requires : tie.Need-write-only-requires
+write-only-requires c κs = (c .before .before .before .before .before .before .before .before .pre .0, (omega (arith, c .before .before .before .before .before .before .before .before .pre .1, c .before .before .if1 .taken), omega (arith, c .before .before .before .before .before .before .before .before .pre .1, c .before .before .if1 .taken)))
+
+same-length : tie.Need-same-length
+same-length c = search needs
+
+same-length-2 : tie.Need-same-length-2
+same-length-2 c = search needs
+
+returns : tie.Need-returns
+returns c = (only-segment (c .before .before .before .before .before .before .before .if1 .taken) (c .before .before .before .before .write-only .ensures), reading-on (c .before .before .before .before .before .before .before .before .before .before .before .before .before .pre .0) (omega (arith, c .before .before .before .before .write-only .kept)))
 
 slice-aggregate-fill-heads : tie.Need-slice-aggregate-fill-heads
 slice-aggregate-fill-heads c = search needs
@@ -24,7 +38,7 @@ slice-aggregate-fill-heads-4 : tie.Need-slice-aggregate-fill-heads-4
 slice-aggregate-fill-heads-4 c = search needs
 
 fill-heads-requires : tie.Need-fill-heads-requires
-fill-heads-requires c κs = (c .before .before .before .before .before .before .before .before .before .before .pre .0, (c .before .before .before .before .before .before .before .before .before .before .pre .1 .0, padded-none, refl, refl, refl))
+fill-heads-requires c κs = (c .before .before .before .before .before .before .before .before .before .before .before .pre .0, (c .before .before .before .before .before .before .before .before .before .before .before .pre .1 .0, padded-none, refl, refl, refl))
 
 slice-aggregate-put-segment : tie.Need-slice-aggregate-put-segment
 slice-aggregate-put-segment c = search needs
@@ -41,19 +55,23 @@ slice-aggregate-put-segment-4 c = search needs
 put-segment-requires : tie.Need-put-segment-requires
 put-segment-requires c κs = search needs
 
-same-length : tie.Need-same-length
-same-length c = search needs
+same-length-3 : tie.Need-same-length-3
+same-length-3 c = search needs
 
-same-length-2 : tie.Need-same-length-2
-same-length-2 c = search needs
+same-length-4 : tie.Need-same-length-4
+same-length-4 c = search needs
 
-returns : tie.Need-returns
-returns c = (c .before .before .before .before .before .before .before .before .put-segment .ensures, reading-on (c .before .before .before .before .before .before .before .before .before .before .before .before .before .before .before .before .before .before .before .before .before .before .before .before .before .before .before .before .before .before .pre .0) (omega (arith, c .before .before .before .before .before .before .before .before .put-segment .kept)))
+returns-2 : tie.Need-returns-2
+returns-2 c = (c .before .before .before .before .before .before .before .before .put-segment .ensures, reading-on (c .before .before .before .before .before .before .before .before .before .before .before .before .before .before .before .before .before .before .before .before .before .before .before .before .before .before .before .before .before .before .before .pre .0) (omega (arith, c .before .before .before .before .before .before .before .before .put-segment .kept)))
 
 pub write-segment-spec : {M : Type 1} → statement M
 write-segment-spec =
     tie.close
     (tie.spec
+    write-only-requires
+    same-length
+    same-length-2
+    returns
     slice-aggregate-fill-heads
     slice-aggregate-fill-heads-2
     slice-aggregate-fill-heads-3
@@ -64,6 +82,6 @@ write-segment-spec =
     slice-aggregate-put-segment-3
     slice-aggregate-put-segment-4
     put-segment-requires
-    same-length
-    same-length-2
-    returns)
+    same-length-3
+    same-length-4
+    returns-2)

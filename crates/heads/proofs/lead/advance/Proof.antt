@@ -1,7 +1,7 @@
 -- `heads::lead::advance` meets its contract: one run moves, and its block is kept anew. Assumes nothing.
 use lib.ListN.{length-set}
 use mathlib.Core.Path.{refl, _∙_}
-use Rattle.heads.specs.Heads.Leads.Laws.{place-low, raised, moved, after-is}
+use Rattle.heads.specs.Heads.Leads.Laws.{half-set, runs-there, place-low, raised, moved, after-is}
 use Rattle.heads.specs.Heads.Laws.{run-cut}
 use native.Mathlib.Omega.{arith}
 use borrow.Author.Needs.{needs}
@@ -82,8 +82,11 @@ mul-places c = search needs
 slice-write-places : tie.Need-slice-write-places
 slice-write-places c = search needs
 
+shared-slice-read-keep : tie.Need-shared-slice-read-keep
+shared-slice-read-keep c = runs-there (c .before .before .before .before .before .before .before .before .before .before .before .before .before .before .before .before .before .before .pre .0 .caching .reading)
+
 keep-requires : tie.Need-keep-requires
-keep-requires c κs = (simp length-set (c .before .before .before .before .before .before .before .before .before .before .before .before .before .before .before .before .before .before .before .pre .0 .caching .padded .room), omega (arith, c .before .before .before .before .before .before .before .before .before .before .before .before .before .before .before .before .before .before .before .pre .1 .0, c .before .before .before .before .before .before .before .before .before .before .before .before .before .before .before .before .before .before .before .pre .0 .caching .reading .few), c .before .before .before .before .before .before .before .before .before .before .before .before .before .before .before .before .before .before .before .pre .0 .leading .room-tops, c .before .before .before .before .before .before .before .before .before .before .before .before .before .before .before .before .before .before .before .pre .0 .leading .room-firsts)
+keep-requires c κs = (simp length-set (c .before .before .before .before .before .before .before .before .before .before .before .before .before .before .before .before .before .before .before .before .pre .0 .caching .padded .room), omega (arith, c .before .before .before .before .before .before .before .before .before .before .before .before .before .before .before .before .before .before .before .before .pre .1 .0, c .before .before .before .before .before .before .before .before .before .before .before .before .before .before .before .before .before .before .before .before .pre .0 .caching .reading .few), c .before .before .before .before .before .before .before .before .before .before .before .before .before .before .before .before .before .before .before .before .pre .0 .leading .room-tops, c .before .before .before .before .before .before .before .before .before .before .before .before .before .before .before .before .before .before .before .before .pre .0 .leading .room-firsts, half-set _ _ (c .before .before .before .before .before .before .before .before .before .before .before .before .before .before .before .before .before .before .before .before .pre .0 .caching .padded) (c .before .before .before .before .before .before .before .before .before .before .before .before .before .before .before .before .before .before .before .before .pre .1 .0) (c .before .before .before .before .before .before .before .before .before .before .before .wide-size .ensures))
 
 same-length : tie.Need-same-length
 same-length c = search needs
@@ -101,7 +104,7 @@ same-length-5 : tie.Need-same-length-5
 same-length-5 c = search needs
 
 returns : tie.Need-returns
-returns c = (raised _ (c .before .before .before .before .before .before .before .before .before .before .before .before .before .before .before .wide-size .ensures), moved (c .before .before .before .before .before .before .before .before .before .before .before .before .before .before .before .before .before .before .before .before .before .before .before .before .pre .0) (c .before .before .before .before .before .before .before .before .before .before .before .before .before .before .before .before .before .before .before .before .before .before .before .before .pre .1 .0) (c .before .before .before .before .before .before .before .before .before .before .before .before .before .before .before .wide-size .ensures) refl refl (c .before .before .before .before .before .before .before .before .key-after .ensures ∙ after-is (c .before .before .before .before .before .before .before .before .before .before .before .before .before .before .before .before .before .before .before .before .before .before .before .before .pre .0 .caching .reading) (c .before .before .before .before .before .before .before .before .before .before .before .before .before .before .before .before .before .before .before .before .before .before .before .before .pre .1 .0) (c .before .before .before .before .before .before .before .before .before .before .before .before .before .before .before .wide-size .ensures) (run-cut (c .before .before .before .before .before .before .before .before .before .before .before .before .before .before .before .before .before .before .before .before .before .before .before .before .pre .0 .caching .reading) (c .before .before .before .before .before .before .before .before .before .before .before .before .before .before .before .before .before .before .before .before .before .before .before .before .pre .1 .0) (c .before .before .before .before .before .before .before .before .before .before .before .before .before .before .before .wide-size .ensures) .bytes) refl refl) (c .before .before .before .before .keep .ensures))
+returns c = (raised _ (c .before .before .before .before .before .before .before .before .before .before .before .before .before .before .before .before .wide-size .ensures), moved (c .before .before .before .before .before .before .before .before .before .before .before .before .before .before .before .before .before .before .before .before .before .before .before .before .before .pre .0) (c .before .before .before .before .before .before .before .before .before .before .before .before .before .before .before .before .before .before .before .before .before .before .before .before .before .pre .1 .0) (c .before .before .before .before .before .before .before .before .before .before .before .before .before .before .before .before .wide-size .ensures) refl refl (c .before .before .before .before .before .before .before .before .before .key-after .ensures ∙ after-is (c .before .before .before .before .before .before .before .before .before .before .before .before .before .before .before .before .before .before .before .before .before .before .before .before .before .pre .0 .caching .reading) (c .before .before .before .before .before .before .before .before .before .before .before .before .before .before .before .before .before .before .before .before .before .before .before .before .before .pre .1 .0) (c .before .before .before .before .before .before .before .before .before .before .before .before .before .before .before .before .wide-size .ensures) (run-cut (c .before .before .before .before .before .before .before .before .before .before .before .before .before .before .before .before .before .before .before .before .before .before .before .before .before .pre .0 .caching .reading) (c .before .before .before .before .before .before .before .before .before .before .before .before .before .before .before .before .before .before .before .before .before .before .before .before .before .pre .1 .0) (c .before .before .before .before .before .before .before .before .before .before .before .before .before .before .before .before .wide-size .ensures) .bytes) refl refl) (c .before .before .before .before .keep .ensures))
 
 pub advance-spec : {M : Type 1} → statement M
 advance-spec =
@@ -130,6 +133,7 @@ advance-spec =
     slice-write-nexts
     mul-places
     slice-write-places
+    shared-slice-read-keep
     keep-requires
     same-length
     same-length-2

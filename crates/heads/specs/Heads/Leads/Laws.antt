@@ -1,6 +1,7 @@
 -- What the code of the leads needs: each law is a way out of a function, or a turn of its loop.
 --     first-one, first-ahead                         the first of one run, and of two stretches
 --     topped-one, topped-ahead                       the same of blocks
+--     half-set, runs-there, half-first               a block of up to four runs
 --     kept-is, leading-none, -more, -all, -set       the blocks, one by one
 --     Ended, ended-none, -more, left-here, -none     the runs at their end, one by one
 --     nexts-none, -more, -all, after-is, -past       the keys after the next ones, run by run
@@ -17,13 +18,13 @@ use lib.Seq.{getD-set-same, getD-set-other}
 use lib.Dec.{eqb, ltb}
 use borrow.Author.Tests.{le-ltb, ltb-true, ltb-false, eqb-true, eqb-false}
 use Rattle.theory.specs.Tests.{cases, order}
-use Rattle.tray.specs.Frame.{runCount, countOf, runBytes}
+use Rattle.tray.specs.Frame.{runCount, countOf, startOf, runBytes}
 use Rattle.tray.specs.Frame.Laws.{upto}
 use Rattle.index.specs.Scan.{raise}
 use Rattle.index.specs.Scan.Code.{Reading}
 use Rattle.heads.specs.declared.lead.Lead.{Lead}
-use Rattle.heads.specs.Heads.{highest, keyOr, nextKey}
-use Rattle.heads.specs.Heads.Leads.{First, Topped, Kept, Leading, Nexts, Heading, FirstLeft, left}
+use Rattle.heads.specs.Heads.{highest, keyOr, nextKey, Padded}
+use Rattle.heads.specs.Heads.Leads.{First, Half, Topped, Kept, Leading, Nexts, Heading, FirstLeft, left}
 
 module _ (keys : List ℕ) where
   pub first-one : {i r : ℕ} → i ≡ r → First keys r (r + 1) (getD keys i 0) r
@@ -77,6 +78,28 @@ module _ (tops firsts : List ℕ) where
       (record { block = q′ .block; first = first-right tops (p .first) q (ltb-true _ _ t); run = q′ .run }))
       (λ f. subst (λ (l : Lead). Topped tops firsts a e′ (l .key) (l .run)) {x = x} {y = m} (sym (is ∙ rw f))
       (record { block = p .block; first = first-left tops (p .first) q (ltb-false _ _ f); run = p .run }))
+
+-- a run with another key; the tray's first byte is how many there are
+pub half-set : (t : List ℕ) {keys : List ℕ} {r i : ℕ} (x : ℕ) → Padded keys (runCount t) → r < runCount t → i ≡ r → Half (set keys i x) (getD t 0 0) (r / 8)
+unfolding runCount
+half-set t {keys} {i = i} x p l q =
+    record { only = λ m. omega arith; past = λ m j a b. getD-set-other keys i j x 0 (λ z. omega arith) ∙ p .past j (omega arith) (omega arith) }
+
+pub runs-there : {t counts starts places : List ℕ} → Reading t counts starts places → 0 < length t
+unfolding startOf
+runs-there g = omega (arith, g .at .frame .whole)
+
+-- the first of up to four runs is the first of the block
+pub half-first : {keys : List ℕ} {h b k r : ℕ} → Half keys h b → h ≤ 4 → First keys 0 4 k r → k ≤ highest → First keys (8 * b) (8 * b + 8) k r
+half-first {keys} {b = b} {k} {r} w few f most =
+    subst (λ (c : ℕ). First keys (8 * c) (8 * c + 8) k r) (sym (w .only few))
+    (record {
+      from = omega arith;
+      below = omega (arith, f .below);
+      here = f .here;
+      low = λ i p q. cases (ltb i 4) (λ y. f .low i (omega arith) (ltb-true _ _ y)) (λ n. omega (arith, w .past few i (ltb-false _ _ n) (omega arith)));
+      before = λ i p q. f .before i (omega arith) q;
+    })
 
 -- a block kept
 pub kept-is : {keys : List ℕ} {b i k r : ℕ} (tops firsts : List ℕ) → First keys (8 * b) (8 * b + 8) k r → i ≡ b
