@@ -5,15 +5,15 @@
 -- Assumes nothing.
 use mathlib.Core.Path.{_≡_, ap, ap₂, _∙_, subst}
 use Prim.Native.Nat.{ℕ, suc, _+_, _-_, _*_, _≤_, _<_}
-use native.Mathlib.Nat.{add-zero, zero-add, sub-zero}
+use native.Mathlib.Nat.{zero-add, sub-zero}
 use native.Mathlib.Numerals.{add-one}
 use native.Mathlib.Omega.{arith}
-use mathlib.Core.List.{List, [], _∷_, _++_, append-nil, append-assoc}
-use lib.ListN.{length, getD, take, drop, set, replicate, take-append-drop, length-append, drop-of-length-le}
+use mathlib.Core.List.{List, _++_, append-nil, append-assoc}
+use lib.ListN.{length, getD, take, drop, set, replicate, length-append, drop-of-length-le}
 use lib.Seq.{drop-at, length-take-le}
 use Rattle.number.specs.Big.{bytesOf, put}
 use Rattle.number.specs.Big.Laws.{length-bytesOf}
-use Rattle.number.specs.Big.Writes.{put-sets, put-put, put-nil, put-cons}
+use Rattle.number.specs.Big.Writes.{put-put, put-nil, put-cons}
 use Rattle.theory.specs.Pack.{joined}
 use Rattle.theory.specs.Listed.{listed}
 use Rattle.heads.specs.Heads.Leads.{LeastKey}

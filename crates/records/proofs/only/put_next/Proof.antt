@@ -2,7 +2,7 @@ use mathlib.Core.Path.{refl}
 use Rattle.heads.specs.Heads.Leads.Laws.{raised}
 -- `records::only::put_next` meets its contract. `only-cut` says that the stretch handed on is the run. Assumes nothing.
 use Rattle.records.specs.Code.Only.{only-cut, only-key, only-spelled}
-use Rattle.records.specs.Code.Records.{mark-low, old-low, spelled}
+use Rattle.records.specs.Code.Records.{mark-low, old-low}
 use native.Mathlib.Omega.{arith}
 use borrow.Author.Needs.{needs}
 use Rattle.records.proofs.only.put_next.Statement.{statement}

@@ -3,7 +3,6 @@
 use Prim.Native.Nat.{_+_, _*_, _≤_, _-_}
 use mathlib.Core.Path.{_≡_}
 use lib.ListN.{length}
-use native.Mathlib.Omega.{arith}
 use borrow.Author.Needs.{needs}
 use Rattle.telling.proofs.fill.put_records.Statement.{statement}
 use Rattle.telling.proofs.fill.put_records.Tie as tie
