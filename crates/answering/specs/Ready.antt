@@ -1,6 +1,7 @@
 -- What holds of the buffers and of what is carried before each read. Assumes nothing.
-use mathlib.Core.Path.{_≡_, refl, sym, ap, _∙_}
-use Prim.Native.Nat.{ℕ, _≤_, _<_}
+use mathlib.Core.Path.{_≡_, ap}
+use mathlib.Core.Logic.{_⊎_}
+use Prim.Native.Nat.{ℕ, _≤_}
 use native.Mathlib.Omega.{arith}
 use mathlib.Core.List.{List}
 use lib.ListN.{length}
@@ -26,11 +27,12 @@ pub record Ready (carried : Carried) (line tray index frame room output : List �
   pub gathers : carried .gathered ≤ gatherSize
   pub low : carried .filled ≤ lastRoom
 
--- what is carried, with room made
+-- what is carried, with room made: what stood in the output stands there still, or all of it is written
 pub record Room (carried after : Carried) : Type 0 where
   pub same-kept : after .kept ≡ carried .kept
   pub same-number : after .number ≡ carried .number
   pub same-gathered : after .gathered ≡ carried .gathered
+  pub held-or-written : (after .filled ≡ carried .filled) ⊎ (after .filled ≡ 0)
   pub low : after .filled ≤ lastRoom
 
 -- at the start

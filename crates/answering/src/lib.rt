@@ -1,5 +1,6 @@
-// The program: standard input to its end, in whatever pieces the system hands out, and the answer lines to standard output in large writes. No
-// contract can say what is read or written; what happens in between is `take_lines` and `finish`.
+// The program: standard input to its end, in whatever pieces the system hands out, and the answer lines to standard output in large writes. What
+// happens in between is `take_lines` and `finish`: of a piece `serve` promises that each byte is fed once, in order, and that the output holds the
+// end of what was said. No contract can say what is read or written: that a piece is what was read, and that what left the output was written.
 use libc::STDIN_FILENO;
 use libc::STDOUT_FILENO;
 use reading::Carried;
@@ -11,6 +12,7 @@ ghost use mathlib.Core.Bool.{true};
 ghost use Prim.Native.Nat.{_≤_};
 ghost use lib.ListN.{length};
 ghost use Rattle.answering.specs.Ready.{Buffers, Ready, Room};
+ghost use Rattle.answering.specs.Serves.{Serves};
 
 // What is carried, and whether there is more to do.
 pub struct Served {
@@ -18,7 +20,7 @@ pub struct Served {
     pub open: bool,
 }
 
-// Writes the output where it has no room for one more answer line.
+// Writes the output where it has no room for one more answer line: all of it, and nothing else that is carried changes.
 fn make_room(carried: Carried, output: &[u8]) -> Served
     requires { ⌜ carried .filled ≤ length (now output) ⌝ }
     ensures { λ r. ⌜ Room carried (r .carried) ⌝ }
@@ -43,7 +45,7 @@ fn make_room(carried: Carried, output: &[u8]) -> Served
     }
 }
 
-// A piece of the input, whole. A write that fails ends the program.
+// A piece of the input, whole: each byte once, in order. A write that fails ends the program.
 fn serve(
     piece: &[u8],
     carried: Carried,
@@ -56,6 +58,7 @@ fn serve(
 ) -> Served
     requires { ⌜ Ready carried (now line) (now tray) (now index) (now frame) (now room) (now output) ⌝ }
     ensures { λ r. ⌜ Ready (r .carried) (now (line .exit)) (now (tray .exit)) (now (index .exit)) (now (frame .exit)) (now (room .exit)) (now (output .exit)) ⌝ }
+    ensures { λ r. ⌜ ((r .open ≡ true) → Serves (now (piece .entry)) carried (now (line .entry)) (now (tray .entry)) (now (index .entry)) (now (output .entry)) (r .carried) (now (line .exit)) (now (tray .exit)) (now (index .exit)) (now (output .exit))) ⌝ }
 {
     let n = piece.len();
     let mut state = carried;

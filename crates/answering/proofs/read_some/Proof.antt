@@ -88,7 +88,7 @@ same-length-16 : tie.Need-same-length-16
 same-length-16 c = c .before .before .before .before .before .before .before .before .before .before .before .before .serve .kept .1 .1 .1 .1 .1 .1 .1 .0
 
 returns-3 : tie.Need-returns-3
-returns-3 c = λ e. c .before .before .before .before .before .before .before .before .before .before .before .before .serve .ensures
+returns-3 c = λ e. c .before .before .before .before .before .before .before .before .before .before .before .before .serve .ensures .0
 
 pub read-some-spec : {M : Type 1} → statement M
 read-some-spec =
