@@ -1,4 +1,4 @@
--- A page a segment at a time: its records are gathered first and then written, where there is room for a record a selector.
+-- A page a segment at a time: its records are gathered first and then written, where there is room for them.
 --     page-passes, tour-page       what a page does at a segment's stops
 --     paging-on, paging-lost       behind them
 --     BySegments                   the loop over segments
@@ -61,7 +61,7 @@ module _ (t : List ℕ) where
 
 module _ {t x : List ℕ} {d n slots g₀ s₀ : ℕ} {places₀ : List Place} {count₀ : ℕ} {out₀ : List ℕ} {g s : ℕ} {places : List Place} {count : ℕ} {out : List ℕ}
     (i : Paging t x d n slots g₀ s₀ places₀ count₀ out₀ g s places count out) (framed : Framed t) {q : ℕ} (e : q ≡ s) {ats₀ : List ℕ} {k stop : ℕ} {ats : List ℕ}
-    (f : GatheredFrom t x d g q places 0 ats₀ k stop ats) (held : k ≤ length ats) (roomy : count + (d - q) ≤ slots) {after : List ℕ} (wrote : after ≡ putAll t (take k ats) count out) where
+    (f : GatheredFrom t x d g q places 0 ats₀ k stop ats) (held : k ≤ length ats) (roomy : count + k ≤ slots) {after : List ℕ} (wrote : after ≡ putAll t (take k ats) count out) where
   abbrev rest : Written → Walked Written (Written × Spot)
   rest = walkSegments t x (pageVisit t) (n - (g + 1)) (g + 1)
 
@@ -78,7 +78,7 @@ module _ {t x : List ℕ} {d n slots g₀ s₀ : ℕ} {places₀ : List Place} {
   many = sym (length-map stops (positionOf t)) ∙ ap length (sym gathered) ∙ length-take-le k ats held
 
   room-for : 24 * (count + k) ≤ length out
-  room-for = let few = from .few in let high = from .high in let m = i .room in omega arith
+  room-for = let m = i .room in omega arith
 
   -- the page behind the stops
   behind : walkSelectors t x (pageVisit t) (d - s) g s (numbers places) (soFar count out) rest ≡ thenOn rest g stop d (soFar (count + k) after)

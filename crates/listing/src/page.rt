@@ -150,8 +150,8 @@ fn page_on(
     }
 }
 
-// The page from a cursor on, a segment at a time: as long as there is room for a record a selector, a segment's records are gathered first and
-// then written; from there on they are written one by one.
+// The page from a cursor on, a segment at a time: a segment's records are gathered first and then written, as long as there is room for them;
+// those of the last segment are written one by one.
 fn page_segments(
     t: &[u8],
     x: &[u8],
@@ -177,7 +177,9 @@ fn page_segments(
     let mut places = from.places;
     loop {
         let at = wide_size(s);
-        if room < count + (size - at) {
+        let m = gather(t, x, h, d, n, counts, starts, g, at, places, 0, &mut ats);
+        let k = m.count;
+        if room < count + k {
             let here = Cursor {
                 segment: SegmentNo(g),
                 selector: s,
@@ -185,8 +187,6 @@ fn page_segments(
             };
             return page_on(t, x, h, d, n, counts, starts, here, count, out);
         }
-        let m = gather(t, x, h, d, n, counts, starts, g, at, places, 0, &mut ats);
-        let k = m.count;
         put_all(t, &ats, k, count, out);
         count += k;
         let stop = m.stop;

@@ -30,36 +30,33 @@ loop-holds c = let r : length (c .before .before .before .before .before .before
 wide-size-requires-2 : tie.Need-wide-size-requires-2 Inv-loop μ-loop
 wide-size-requires-2 c κs = search needs
 
-sub-if1 : tie.Need-sub-if1 Inv-loop μ-loop
-sub-if1 c = omega (arith, c .before .loop .inv .paging .here .on .high, c .before .before .before .wide-size .ensures, c .wide-size2 .ensures)
+slice-aggregate-gather : tie.Need-slice-aggregate-gather Inv-loop μ-loop
+slice-aggregate-gather c = search needs
+
+gather-requires : tie.Need-gather-requires Inv-loop μ-loop
+gather-requires c κs = (c .before .before .before .before .before .before .before .before .before .before .pre .0, (c .before .before .before .before .before .before .before .before .before .before .pre .1 .0, (c .before .before .loop .inv .paging .here .on .inside, omega (arith, c .before .before .loop .inv .paging .here .on .high, c .before .wide-size2 .ensures), c .before .before .loop .inv .paging .here .room, omega (arith, c .before .before .before .before .before .before .before .before .before .before .pre .1 .1 .2, c .before .before .loop .inv .held))))
 
 add-if1 : tie.Need-add-if1 Inv-loop μ-loop
-add-if1 c = omega (arith, c .before .loop .inv .fits, c .before .loop .inv .paging .room, c .before .loop .inv .paging .kept, c .before .before .before .before .before .before .before .before .before .good .1 .1 .1 .1 .1 .1 .1 .1 .0 .0, c .before .before .before .wide-size .ensures)
+add-if1 c = omega (arith, c .before .before .before .before .loop .inv .fits, c .before .before .before .before .loop .inv .paging .room, c .before .before .before .before .loop .inv .paging .kept, c .before .before .before .before .before .before .before .before .before .before .before .before .good .1 .1 .1 .1 .1 .1 .1 .1 .0 .0, c .before .gather .ensures .few, c .before .gather .ensures .high)
 
 page-on-requires : tie.Need-page-on-requires Inv-loop μ-loop
-page-on-requires c κs = (c .before .before .before .before .before .before .before .before .before .before .before .pre .0, (c .before .before .before .before .before .before .before .before .before .before .before .pre .1 .0, (c .before .before .before .loop .inv .paging .here .on .inside, c .before .before .before .loop .inv .paging .here .on .high)))
+page-on-requires c κs = (c .before .before .before .before .before .before .before .before .before .before .before .before .before .before .pre .0, (c .before .before .before .before .before .before .before .before .before .before .before .before .before .before .pre .1 .0, (c .before .before .before .before .before .before .loop .inv .paging .here .on .inside, c .before .before .before .before .before .before .loop .inv .paging .here .on .high)))
 
 same-length : tie.Need-same-length Inv-loop μ-loop
 same-length c = search needs
 
 returns : tie.Need-returns Inv-loop μ-loop
 unfolding spotOf
-returns c = c .before .before .page-on .ensures ∙ here-whole (c .before .before .before .before .before .before .before .before .before .before .before .before .before .before .pre .0) (c .before .before .before .before .before .before .loop .inv .paging .here) ∙ onward-from (c .before .before .before .before .before .before .before .before .before .before .before .before .before .before .pre .0) (pageVisit _) (c .before .before .before .before .before .before .before .before .before .before .before .before .before .before .args .from) _ refl (c .before .before .before .before .before .before .before .before .before .before .before .before .before .before .pre .1 .1 .0)
-
-slice-aggregate-gather : tie.Need-slice-aggregate-gather Inv-loop μ-loop
-slice-aggregate-gather c = search needs
-
-gather-requires : tie.Need-gather-requires Inv-loop μ-loop
-gather-requires c κs = (c .before .before .before .before .before .before .before .before .before .before .before .pre .0, (c .before .before .before .before .before .before .before .before .before .before .before .pre .1 .0, (c .before .before .before .loop .inv .paging .here .on .inside, omega (arith, c .before .before .before .loop .inv .paging .here .on .high, c .before .before .wide-size2 .ensures), c .before .before .before .loop .inv .paging .here .room, omega (arith, c .before .before .before .before .before .before .before .before .before .before .before .pre .1 .1 .2, c .before .before .before .loop .inv .held))))
+returns c = c .before .before .page-on .ensures ∙ here-whole (c .before .before .before .before .before .before .before .before .before .before .before .before .before .before .before .before .before .pre .0) (c .before .before .before .before .before .before .before .before .before .loop .inv .paging .here) ∙ onward-from (c .before .before .before .before .before .before .before .before .before .before .before .before .before .before .before .before .before .pre .0) (pageVisit _) (c .before .before .before .before .before .before .before .before .before .before .before .before .before .before .before .before .before .args .from) _ refl (c .before .before .before .before .before .before .before .before .before .before .before .before .before .before .before .before .before .pre .1 .1 .0)
 
 slice-aggregate-put-all : tie.Need-slice-aggregate-put-all Inv-loop μ-loop
 slice-aggregate-put-all c = search needs
 
 put-all-requires : tie.Need-put-all-requires Inv-loop μ-loop
-put-all-requires c κs = (gathered-within (c .before .before .before .before .before .before .before .before .before .before .before .before .before .before .before .pre .1 .0 .frame) (within-none _) (c .before .before .before .gather .ensures), ((omega (arith, c .before .before .before .gather .ensures .few, c .before .before .before .gather .ensures .high, c .before .before .before .gather .kept .1 .1 .1 .1 .1 .1 .1 .1 .1 .1 .1 .0, c .before .before .before .before .before .before .before .loop .inv .held, c .before .before .before .before .before .before .before .before .before .before .before .before .before .before .before .pre .1 .1 .2)), omega (arith, c .before .before .before .gather .ensures .few, c .before .before .before .gather .ensures .high, c .before .before .before .before .before .if1 .left, c .before .before .before .before .before .before .before .before .before .wide-size .ensures, c .before .before .before .before .before .before .before .loop .inv .paging .room)))
+put-all-requires c κs = (gathered-within (c .before .before .before .before .before .before .before .before .before .before .before .before .before .before .before .pre .1 .0 .frame) (within-none _) (c .before .before .before .before .gather .ensures), (omega (arith, c .before .before .before .before .gather .ensures .few, c .before .before .before .before .gather .ensures .high, c .before .before .before .before .gather .kept .1 .1 .1 .1 .1 .1 .1 .1 .1 .1 .1 .0, c .before .before .before .before .before .before .before .loop .inv .held, c .before .before .before .before .before .before .before .before .before .before .before .before .before .before .before .pre .1 .1 .2), omega (arith, c .before .before .if1 .left, c .before .before .before .before .before .before .before .loop .inv .paging .room)))
 
 add-count : tie.Need-add-count Inv-loop μ-loop
-add-count c = omega (arith, c .before .before .before .before .before .before .gather .ensures .few, c .before .before .before .before .before .before .gather .ensures .high, c .before .before .before .before .before .before .before .before .if1 .left, c .before .before .before .before .before .before .before .before .before .before .before .before .wide-size .ensures, c .before .before .before .before .before .before .before .before .before .before .loop .inv .paging .room, c .before .before .before .before .before .before .before .before .before .before .loop .inv .paging .kept, c .before .before .before .before .before .before .before .before .before .before .before .before .before .before .before .before .before .before .good .1 .1 .1 .1 .1 .1 .1 .1 .0 .0)
+add-count c = omega (arith, c .before .before .before .before .before .if1 .left, c .before .before .before .before .before .before .before .before .before .before .loop .inv .paging .room, c .before .before .before .before .before .before .before .before .before .before .loop .inv .paging .kept, c .before .before .before .before .before .before .before .before .before .before .before .before .before .before .before .before .before .before .good .1 .1 .1 .1 .1 .1 .1 .1 .0 .0)
 
 page-lost-requires : tie.Need-page-lost-requires Inv-loop μ-loop
 page-lost-requires c κs = omega (arith, c .if2 .taken, c .before .before .before .before .before .before .before .before .before .before .before .before .before .wide-size .ensures)
@@ -68,7 +65,7 @@ same-length-2 : tie.Need-same-length-2 Inv-loop μ-loop
 same-length-2 c = c .before .before .before .before .put-all .kept .1 .1 .1 .1 .0 ∙ c .before .before .before .before .before .before .before .before .before .before .before .before .loop .inv .paging .kept
 
 returns-2 : tie.Need-returns-2 Inv-loop μ-loop
-returns-2 c = c .page-lost .ensures .of _ ∙ paging-lost (c .before .before .before .before .before .before .before .before .before .before .before .before .loop .inv .paging) (c .before .before .before .before .before .before .before .before .before .before .before .before .before .before .before .before .before .before .before .before .pre .1 .0 .frame) (c .before .before .before .before .before .before .before .before .before .before .before .wide-size2 .ensures) (c .before .before .before .before .before .before .before .before .gather .ensures) (omega (arith, c .before .before .before .before .before .before .before .before .gather .ensures .few, c .before .before .before .before .before .before .before .before .gather .ensures .high, c .before .before .before .before .before .before .before .before .gather .kept .1 .1 .1 .1 .1 .1 .1 .1 .1 .1 .1 .0, c .before .before .before .before .before .before .before .before .before .before .before .before .loop .inv .held, c .before .before .before .before .before .before .before .before .before .before .before .before .before .before .before .before .before .before .before .before .pre .1 .1 .2)) (omega (arith, c .before .before .before .before .before .before .before .before .before .before .if1 .left, c .before .before .before .before .before .before .before .before .before .before .before .before .before .before .wide-size .ensures)) (c .before .before .before .before .put-all .ensures) (omega (arith, c .before .if2 .taken, c .before .before .before .before .before .before .before .before .before .before .before .before .before .before .wide-size .ensures)) ∙ onward-from (c .before .before .before .before .before .before .before .before .before .before .before .before .before .before .before .before .before .before .before .before .pre .0) (pageVisit _) (c .before .before .before .before .before .before .before .before .before .before .before .before .before .before .before .before .before .before .before .before .args .from) _ refl (c .before .before .before .before .before .before .before .before .before .before .before .before .before .before .before .before .before .before .before .before .pre .1 .1 .0)
+returns-2 c = c .page-lost .ensures .of _ ∙ paging-lost (c .before .before .before .before .before .before .before .before .before .before .before .before .loop .inv .paging) (c .before .before .before .before .before .before .before .before .before .before .before .before .before .before .before .before .before .before .before .before .pre .1 .0 .frame) (c .before .before .before .before .before .before .before .before .before .before .before .wide-size2 .ensures) (c .before .before .before .before .before .before .before .before .before .gather .ensures) (omega (arith, c .before .before .before .before .before .before .before .before .before .gather .ensures .few, c .before .before .before .before .before .before .before .before .before .gather .ensures .high, c .before .before .before .before .before .before .before .before .before .gather .kept .1 .1 .1 .1 .1 .1 .1 .1 .1 .1 .1 .0, c .before .before .before .before .before .before .before .before .before .before .before .before .loop .inv .held, c .before .before .before .before .before .before .before .before .before .before .before .before .before .before .before .before .before .before .before .before .pre .1 .1 .2)) (c .before .before .before .before .before .before .before .if1 .left) (c .before .before .before .before .put-all .ensures) (omega (arith, c .before .if2 .taken, c .before .before .before .before .before .before .before .before .before .before .before .before .before .before .wide-size .ensures)) ∙ onward-from (c .before .before .before .before .before .before .before .before .before .before .before .before .before .before .before .before .before .before .before .before .pre .0) (pageVisit _) (c .before .before .before .before .before .before .before .before .before .before .before .before .before .before .before .before .before .before .before .before .args .from) _ refl (c .before .before .before .before .before .before .before .before .before .before .before .before .before .before .before .before .before .before .before .before .pre .1 .1 .0)
 
 add-g : tie.Need-add-g Inv-loop μ-loop
 add-g c = search needs
@@ -80,7 +77,7 @@ same-length-3 : tie.Need-same-length-3 Inv-loop μ-loop
 same-length-3 c = c .before .before .before .before .before .put-all .kept .1 .1 .1 .1 .0 ∙ c .before .before .before .before .before .before .before .before .before .before .before .before .before .loop .inv .paging .kept
 
 returns-3 : tie.Need-returns-3 Inv-loop μ-loop
-returns-3 c = c .page-end .ensures .of _ ∙ here-end (c .before .before .before .before .before .before .before .before .before .before .before .before .before .before .before .before .before .before .before .before .before .pre .0) ((paging-on (c .before .before .before .before .before .before .before .before .before .before .before .before .before .loop .inv .paging) (c .before .before .before .before .before .before .before .before .before .before .before .before .before .before .before .before .before .before .before .before .before .pre .1 .0 .frame) (c .before .before .before .before .before .before .before .before .before .before .before .before .wide-size2 .ensures) (c .before .before .before .before .before .before .before .before .before .gather .ensures) (omega (arith, c .before .before .before .before .before .before .before .before .before .gather .ensures .few, c .before .before .before .before .before .before .before .before .before .gather .ensures .high, c .before .before .before .before .before .before .before .before .before .gather .kept .1 .1 .1 .1 .1 .1 .1 .1 .1 .1 .1 .0, c .before .before .before .before .before .before .before .before .before .before .before .before .before .loop .inv .held, c .before .before .before .before .before .before .before .before .before .before .before .before .before .before .before .before .before .before .before .before .before .pre .1 .1 .2)) (omega (arith, c .before .before .before .before .before .before .before .before .before .before .before .if1 .left, c .before .before .before .before .before .before .before .before .before .before .before .before .before .before .before .wide-size .ensures)) (c .before .before .before .before .before .put-all .ensures) (omega (arith, c .before .before .if2 .left, c .before .before .before .before .before .before .before .before .before .before .before .before .before .before .before .wide-size .ensures))) .here) (omega arith) (c .before .if3 .taken) ∙ onward-from (c .before .before .before .before .before .before .before .before .before .before .before .before .before .before .before .before .before .before .before .before .before .pre .0) (pageVisit _) (c .before .before .before .before .before .before .before .before .before .before .before .before .before .before .before .before .before .before .before .before .before .args .from) _ refl (c .before .before .before .before .before .before .before .before .before .before .before .before .before .before .before .before .before .before .before .before .before .pre .1 .1 .0)
+returns-3 c = c .page-end .ensures .of _ ∙ here-end (c .before .before .before .before .before .before .before .before .before .before .before .before .before .before .before .before .before .before .before .before .before .pre .0) ((paging-on (c .before .before .before .before .before .before .before .before .before .before .before .before .before .loop .inv .paging) (c .before .before .before .before .before .before .before .before .before .before .before .before .before .before .before .before .before .before .before .before .before .pre .1 .0 .frame) (c .before .before .before .before .before .before .before .before .before .before .before .before .wide-size2 .ensures) (c .before .before .before .before .before .before .before .before .before .before .gather .ensures) (omega (arith, c .before .before .before .before .before .before .before .before .before .before .gather .ensures .few, c .before .before .before .before .before .before .before .before .before .before .gather .ensures .high, c .before .before .before .before .before .before .before .before .before .before .gather .kept .1 .1 .1 .1 .1 .1 .1 .1 .1 .1 .1 .0, c .before .before .before .before .before .before .before .before .before .before .before .before .before .loop .inv .held, c .before .before .before .before .before .before .before .before .before .before .before .before .before .before .before .before .before .before .before .before .before .pre .1 .1 .2)) (c .before .before .before .before .before .before .before .before .if1 .left) (c .before .before .before .before .before .put-all .ensures) (omega (arith, c .before .before .if2 .left, c .before .before .before .before .before .before .before .before .before .before .before .before .before .before .before .wide-size .ensures))) .here) (omega arith) (c .before .if3 .taken) ∙ onward-from (c .before .before .before .before .before .before .before .before .before .before .before .before .before .before .before .before .before .before .before .before .before .pre .0) (pageVisit _) (c .before .before .before .before .before .before .before .before .before .before .before .before .before .before .before .before .before .before .before .before .before .args .from) _ refl (c .before .before .before .before .before .before .before .before .before .before .before .before .before .before .before .before .before .before .before .before .before .pre .1 .1 .0)
 
 segment-at-requires : tie.Need-segment-at-requires Inv-loop μ-loop
 segment-at-requires c κs = search needs
@@ -92,7 +89,7 @@ loop-less : tie.Need-loop-less Inv-loop μ-loop
 loop-less c = omega arith
 
 loop-again : tie.Need-loop-again Inv-loop μ-loop
-loop-again c = record { paging = paging-enter (paging-on (c .before .before .before .before .before .before .before .before .before .before .before .before .before .before .loop .inv .paging) (c .before .before .before .before .before .before .before .before .before .before .before .before .before .before .before .before .before .before .before .before .before .before .pre .1 .0 .frame) (c .before .before .before .before .before .before .before .before .before .before .before .before .before .wide-size2 .ensures) (c .before .before .before .before .before .before .before .before .before .before .gather .ensures) (omega (arith, c .before .before .before .before .before .before .before .before .before .before .gather .ensures .few, c .before .before .before .before .before .before .before .before .before .before .gather .ensures .high, c .before .before .before .before .before .before .before .before .before .before .gather .kept .1 .1 .1 .1 .1 .1 .1 .1 .1 .1 .1 .0, c .before .before .before .before .before .before .before .before .before .before .before .before .before .before .loop .inv .held, c .before .before .before .before .before .before .before .before .before .before .before .before .before .before .before .before .before .before .before .before .before .before .pre .1 .1 .2)) (omega (arith, c .before .before .before .before .before .before .before .before .before .before .before .before .if1 .left, c .before .before .before .before .before .before .before .before .before .before .before .before .before .before .before .before .wide-size .ensures)) (c .before .before .before .before .before .before .put-all .ensures) (omega (arith, c .before .before .before .if2 .left, c .before .before .before .before .before .before .before .before .before .before .before .before .before .before .before .before .wide-size .ensures))) (c .before .before .before .before .before .before .before .before .before .before .before .before .before .before .before .before .before .before .before .before .before .before .pre .0) (omega arith) (c .before .before .if3 .left) (c .before .segment-at .ensures) (c .load .ensures); fits = omega (arith, c .before .before .before .before .before .before .before .before .before .before .gather .ensures .few, c .before .before .before .before .before .before .before .before .before .before .gather .ensures .high, c .before .before .before .before .before .before .before .before .before .before .before .before .if1 .left, c .before .before .before .before .before .before .before .before .before .before .before .before .before .before .before .before .wide-size .ensures); held = c .before .before .before .before .before .before .before .before .before .before .gather .kept .1 .1 .1 .1 .1 .1 .1 .1 .1 .1 .1 .0 ∙ c .before .before .before .before .before .before .before .before .before .before .before .before .before .before .loop .inv .held }
+loop-again c = record { paging = paging-enter (paging-on (c .before .before .before .before .before .before .before .before .before .before .before .before .before .before .loop .inv .paging) (c .before .before .before .before .before .before .before .before .before .before .before .before .before .before .before .before .before .before .before .before .before .before .pre .1 .0 .frame) (c .before .before .before .before .before .before .before .before .before .before .before .before .before .wide-size2 .ensures) (c .before .before .before .before .before .before .before .before .before .before .before .gather .ensures) (omega (arith, c .before .before .before .before .before .before .before .before .before .before .before .gather .ensures .few, c .before .before .before .before .before .before .before .before .before .before .before .gather .ensures .high, c .before .before .before .before .before .before .before .before .before .before .before .gather .kept .1 .1 .1 .1 .1 .1 .1 .1 .1 .1 .1 .0, c .before .before .before .before .before .before .before .before .before .before .before .before .before .before .loop .inv .held, c .before .before .before .before .before .before .before .before .before .before .before .before .before .before .before .before .before .before .before .before .before .before .pre .1 .1 .2)) (c .before .before .before .before .before .before .before .before .before .if1 .left) (c .before .before .before .before .before .before .put-all .ensures) (omega (arith, c .before .before .before .if2 .left, c .before .before .before .before .before .before .before .before .before .before .before .before .before .before .before .before .wide-size .ensures))) (c .before .before .before .before .before .before .before .before .before .before .before .before .before .before .before .before .before .before .before .before .before .before .pre .0) (omega arith) (c .before .before .if3 .left) (c .before .segment-at .ensures) (c .load .ensures); fits = omega (arith, c .before .before .before .before .before .before .before .before .before .if1 .left); held = c .before .before .before .before .before .before .before .before .before .before .before .gather .kept .1 .1 .1 .1 .1 .1 .1 .1 .1 .1 .1 .0 ∙ c .before .before .before .before .before .before .before .before .before .before .before .before .before .before .loop .inv .held }
 
 pub page-segments-spec : {M : Type 1} → statement M
 page-segments-spec =
@@ -103,13 +100,12 @@ page-segments-spec =
     wide-size-requires
     loop-holds
     wide-size-requires-2
-    sub-if1
+    slice-aggregate-gather
+    gather-requires
     add-if1
     page-on-requires
     same-length
     returns
-    slice-aggregate-gather
-    gather-requires
     slice-aggregate-put-all
     put-all-requires
     add-count
