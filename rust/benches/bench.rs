@@ -70,7 +70,7 @@ struct Effort {
 const FULL: Effort = Effort { rounds: 15, units: 60_000 };
 const QUICK: Effort = Effort { rounds: 3, units: 1 };
 
-/// How often the whole table is measured: what shares the processor with this machine comes and goes, and takes up to half of its speed.
+/// How often the whole table is measured: a machine that shares its processors may be half as fast from one minute to the next.
 const PASSES: usize = 5;
 
 /// One way to do a task: a name, and the task done once.

@@ -232,7 +232,7 @@ commonly holds, and a merge or a listing reads it at 63 places in turn. The last
 fits: so they show what is the call's own. The hand-written rules wait as long.
 
 Page over one run through segments of 32 selectors is furthest behind: where it enters a segment the compiled code clears 63 places, reads the one
-that the tray has, and copies all of them twice, and the first copy waits for the place just written; the hand-written rules keep one array.
+that the tray has, and copies all of them twice; the hand-written rules keep one array.
 
 {table}"
     )
