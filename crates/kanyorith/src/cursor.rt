@@ -42,7 +42,7 @@ fn places_in(numbers: &[u16]) -> [Place; 63]
 }
 
 // The cursor that 66 numbers stand for.
-pub fn cursor_in(numbers: &[u16]) -> Cursor
+pub(crate) fn cursor_in(numbers: &[u16]) -> Cursor
     requires { ⌜ length (now numbers) ≡ 66 ⌝ }
     ensures { λ c. ⌜ c ≡ narrowCursor (cursorIn (now (numbers .entry))) ⌝ }
 {
@@ -75,7 +75,7 @@ fn put_places(places: [Place; 63], numbers: &mut [u16])
 }
 
 // The numbers of a cursor.
-pub fn put_cursor(from: Cursor, numbers: &mut [u16])
+pub(crate) fn put_cursor(from: Cursor, numbers: &mut [u16])
     requires { ⌜ length (now numbers) ≡ 66 ⌝ }
     ensures { λ _. ⌜ now (numbers .exit) ≡ cursorNumbers from ⌝ }
 {

@@ -1,8 +1,8 @@
 // The public face (document 01): one call for each of its calls, for C and Rust alike. Every call takes bytes of every sort and ends. It
 // answers the number of a refusal, or 0, and its figure beside it; what each call promises stands in `specs/Promises.antt`, and what follows
 // from the promises in `specs/Theorems.antt`. The declarations for C are in `include/kanyorith.h`.
-pub mod cursor;
-pub mod told;
+mod cursor;
+mod told;
 
 use crate::cursor::cursor_in;
 use crate::cursor::put_cursor;

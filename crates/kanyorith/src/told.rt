@@ -6,7 +6,7 @@ ghost use Rattle.refusal.specs.Table.{told, verdictOf};
 ghost use Rattle.kanyorith.specs.Wide.{narrowed, owned};
 
 // A number as a byte. One above 255 is as good as 255: both are out of every bound.
-pub fn narrow(n: u64) -> u8
+pub(crate) fn narrow(n: u64) -> u8
     ensures { λ r. ⌜ r ≡ narrowed n ⌝ }
 {
     if n <= 255 {
@@ -16,7 +16,7 @@ pub fn narrow(n: u64) -> u8
 }
 
 // The number of a refusal, and its figure.
-pub fn refuse(r: Refusal, figure: &mut u64) -> u32
+pub(crate) fn refuse(r: Refusal, figure: &mut u64) -> u32
     ensures { λ n. ⌜ told n (now (figure .exit)) ≡ verdictOf r ⌝ }
 {
     let v = verdict_of(r);
@@ -25,7 +25,7 @@ pub fn refuse(r: Refusal, figure: &mut u64) -> u32
 }
 
 // The same, but at one number the figure is the caller's own: what was asked for, however wide.
-pub fn refuse_own(r: Refusal, at: u8, own: u64, figure: &mut u64) -> u32
+pub(crate) fn refuse_own(r: Refusal, at: u8, own: u64, figure: &mut u64) -> u32
     ensures { λ n. ⌜ told n (now (figure .exit)) ≡ owned at own (verdictOf r) ⌝ }
 {
     let v = verdict_of(r);

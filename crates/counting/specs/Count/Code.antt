@@ -13,7 +13,7 @@ use native.Mathlib.Omega.{arith}
 use mathlib.Core.Bool.{false, cond}
 use mathlib.Core.List.{List, [], _∷_, _++_, map, map-append, append-nil}
 use lib.ListN.{length, getD, take, drop, length-map, length-append}
-use lib.Seq.{length-take-le, getD-take, getD-append-add, take-take, take-append-add, append-snoc}
+use lib.Seq.{length-take-le, take-all, getD-take, getD-append-add, take-take, take-append-add, append-snoc}
 use lib.Dec.{leb}
 use borrow.Author.Tests.{le-leb, lt-leb, leb-true, leb-false}
 use Rattle.theory.specs.Lists.{here, all-tail}
@@ -298,11 +298,7 @@ module _ {t x : List ℕ} {high d n g₀ s₀ : ℕ} {places₀ : List Place} {a
         walks
         ∙ tour-below t high (thenOn rest g stop d) stops rights (i .records) (λ j b. below j (omega arith))
         ∙ ap (λ (bs : List ℕ). thenOn rest g stop d (i .records ++ map (recordFrom t) bs))
-        (sym (take-whole (map (positionOf t) stops) fresh (z ∙ sym (length-map stops (positionOf t)))))
-      where
-        take-whole : (zs : List ℕ) (b : ℕ) → b ≡ length zs → take b zs ≡ zs
-        take-whole [] b e = rw e
-        take-whole (a ∷ zs) b e = rw e (ap (λ (ys : List ℕ). a ∷ ys) (take-whole zs (length zs) refl))
+        (sym (take-all fresh (map (positionOf t) stops) (omega (arith, z, length-map stops (positionOf t)))))
 
     -- is lost,
     pub counted-lost : k ≤ p → stop < d → lost g stop more ≡ onward t x (sheetVisit t high) d n g₀ s₀ places₀ []
