@@ -1,2 +1,3 @@
--- What the code of build needs of the definitions in `built` and `records`.
-pub mod Code
+-- The call build, for every tray, segment size and room.
+-- what the code needs of its answer
+pub mod Answers

@@ -1,5 +1,4 @@
 // The builder of indexes (document 01, "The index"): each key's versions go into the current segment if all fit and else open a new one.
-pub mod segment;
 pub mod segments;
 
 use crate::segments::count_segments;
@@ -10,8 +9,8 @@ use index::frame::segment_at;
 use number::put4;
 use number::wide64;
 use refusal::Refusal;
-use tray::check::TrayAnswer;
-use tray::check::check_tray;
+use sound::check_tray;
+use tray::TrayAnswer;
 use tray::frame::TrayFrame;
 use tray::frame::tray_frame;
 ghost use mathlib.Core.Path.{_≡_};
@@ -22,7 +21,7 @@ ghost use Rattle.number.specs.Big.{bytesOf, put};
 ghost use Rattle.tray.specs.Meaning.{runsOf};
 ghost use Rattle.built.specs.Build.{indexBytes, indexSize, build as buildOf, leaves};
 ghost use Rattle.records.specs.Code.{Sounded};
-ghost use Rattle.build.specs.Code.Answers.{roomAnswer};
+ghost use Rattle.build.specs.Answers.{roomAnswer};
 
 // The header: runs, segment size, two zeros, and the segment count.
 fn put_header(out: &mut [u8], h: u8, d: u8, s: u32)

@@ -1,8 +1,8 @@
 // All segments: counted, and written each into its own stretch of the output.
-use crate::segment::write_segment;
 use index::SegmentNo;
 use index::frame::segment_at;
 use number::wide_size;
+use segment::write_segment;
 use tray::frame::TrayFrame;
 ghost use mathlib.Core.Path.{_≡_};
 ghost use mathlib.Core.List.{[]};

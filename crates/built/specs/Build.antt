@@ -17,8 +17,8 @@ use Rattle.theory.specs.Records.{Record}
 use Rattle.theory.specs.View.{view}
 use Rattle.theory.specs.Places.{count}
 use Rattle.theory.specs.Pack.{joined, groups, pack}
-use Rattle.tray.specs.declared.check.TrayAnswer.{TrayAnswer}
-use Rattle.tray.specs.declared.check.TrayAnswer.the-variants.{Records, Refused as TrayRefused}
+use Rattle.tray.specs.declared.TrayAnswer.{TrayAnswer}
+use Rattle.tray.specs.declared.TrayAnswer.the-variants.{Records, Refused as TrayRefused}
 use Rattle.tray.specs.Frame.{runCount, framed}
 use Rattle.tray.specs.Check.{checkTray}
 use Rattle.tray.specs.Meaning.{runsOf}

@@ -8,8 +8,8 @@ use Rattle.theory.specs.Records.{Record}
 use Rattle.tray.specs.Run.{recordFrom}
 use Rattle.walk.specs.Walk.{Walked, stayed, ended, lost}
 use Rattle.gathering.specs.Stops.{Within}
-use Rattle.listing.specs.declared.page.Stop.{Stop}
-use Rattle.listing.specs.declared.page.Stop.the-variants.{More, End, Lost}
+use Rattle.points.specs.declared.Stop.{Stop}
+use Rattle.points.specs.declared.Stop.the-variants.{More, End, Lost}
 use Rattle.counting.specs.declared.Counted.{Counted}
 
 -- of the records that start at these bytes of the tray, r is the first from one on whose key is at or above the bound, or their end

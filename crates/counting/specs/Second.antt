@@ -26,10 +26,10 @@ use Rattle.walk.specs.Reads.Page.{listing, written, write-more, written-length,
 use Rattle.walk.specs.Reads.Sheet.{Lists}
 use Rattle.walk.specs.Reads.Sheet.Lists.{to-bound, to-end}
 use Rattle.walk.specs.Code.{spotOf}
-use Rattle.listing.specs.declared.page.Stop.{Stop}
-use Rattle.listing.specs.declared.page.Stop.the-variants.{More, End, Lost}
-use Rattle.listing.specs.declared.page.Paged.{Paged}
-use Rattle.listing.specs.Page.{soFar, begun, pagedAs, pagedOf}
+use Rattle.points.specs.declared.Stop.{Stop}
+use Rattle.points.specs.declared.Stop.the-variants.{More, End, Lost}
+use Rattle.points.specs.declared.Paged.{Paged}
+use Rattle.points.specs.Page.{soFar, begun, pagedAs, pagedOf}
 
 -- what the page comes to, by what the first pass came to from n records on: where the room is just that of its records, the same
 data Second (out : List ℕ) (n : ℕ) : Walked (List Record) (List Record) → Walked Written (Written × Spot) → Type 0 where

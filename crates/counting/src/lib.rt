@@ -3,8 +3,8 @@
 use gathering::gather;
 use index::SegmentNo;
 use index::frame::segment_at;
-use listing::page::Stop;
 use number::wide_size;
+use points::Stop;
 use tray::Place;
 use tray::run::key_at;
 use walk::cursor::Cursor;

@@ -1,2 +1,3 @@
--- What the code of fold needs of the definitions in `folded`.
-pub mod Code
+-- The call fold, for every tray, every pair of runs and every room.
+-- what the code needs of its answer
+pub mod Answers

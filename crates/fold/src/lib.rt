@@ -1,24 +1,22 @@
 // Folding neighbouring runs into one (document 01, "Folding").
-pub mod write;
-
-use crate::write::copy;
-use crate::write::write_tray;
 use folded::FoldAnswer;
 use folding::merge_runs;
 use number::wide_size;
 use refusal::Refusal;
+use rewriting::copy;
+use rewriting::write_tray;
+use sound::check_tray;
 use tray::RunNo;
-use tray::check::TrayAnswer;
-use tray::check::check_tray;
+use tray::TrayAnswer;
 use tray::frame::TrayFrame;
 use tray::frame::tray_frame;
 ghost use mathlib.Core.Path.{_≡_};
 ghost use Prim.Native.Nat.{_≤_};
 ghost use lib.ListN.{length};
 ghost use Rattle.tray.specs.Meaning.{runsOf};
-ghost use Rattle.folding.specs.Folding.{Folding};
+ghost use Rattle.keeping.specs.Folding.{Folding};
 ghost use Rattle.folded.specs.Fold.{foldSize, foldedRun, foldAnswer, leaves};
-ghost use Rattle.fold.specs.Code.{soundAnswer};
+ghost use Rattle.rewriting.specs.Code.{soundAnswer};
 
 // How many bytes the tray has with its runs a to b made one of n records.
 fn folded_size(t: &[u8], f: TrayFrame, a: RunNo, b: RunNo, n: usize) -> usize

@@ -1,56 +1,24 @@
 // The runs a to b merged: where each record that is left stands in the tray. The other runs count as read to their ends.
-use heads::lead::advance;
-use heads::lead::choose;
-use heads::lead::fill_heads;
-use heads::lead::leader;
+use advancing::advance;
+use advancing::fill_heads;
+use heads::choose;
+use heads::leader;
+use keeping::fresh;
+use keeping::note;
+use keeping::skip_runs;
 use number::wide_size;
 use tray::RunNo;
 use tray::frame::TrayFrame;
 use tray::frame::size16;
 ghost use mathlib.Core.Path.{_≡_};
-ghost use mathlib.Core.Bool.{cond};
-ghost use Prim.Native.Nat.{_≤_, _<_};
+ghost use Prim.Native.Nat.{_<_};
 ghost use lib.ListN.{length, getD};
-ghost use lib.Dec.{ltb};
 ghost use Rattle.tray.specs.Frame.{runCount, countOf};
 ghost use Rattle.tray.specs.Check.{Sound};
 ghost use Rattle.tray.specs.Meaning.{runsOf};
 ghost use Rattle.index.specs.Scan.{raise};
 ghost use Rattle.heads.specs.Heads.Leads.{Heading};
-ghost use Rattle.folding.specs.Folding.{mergedRun, mergeLeft, newFrom, nextAt, noted, Skips, Ended, Noted, Folding};
-
-// The runs from one up to another read to their ends.
-fn skip_runs(counts: &[u16], from: usize, to: usize, places: &mut [u16])
-    requires { ⌜ (from ≤ to) × (to ≤ 63) × (length (now counts) ≡ 63) × (length (now places) ≡ 63) ⌝ }
-    ensures { λ _. ⌜ Skips (now (counts .entry)) (now (places .entry)) from to (now (places .exit)) ⌝ }
-{
-    let mut i = from;
-    while i < to {
-        places[i] = counts[i];
-        i += 1;
-    }
-}
-
-// Notes where record n stands. Past 4,096 records the run is too long, and they are only counted.
-fn note(kept: &mut [usize], n: usize, at: usize)
-    requires { ⌜ length (now kept) ≡ 4096 ⌝ }
-    ensures { λ _. ⌜ now (kept .exit) ≡ noted (now (kept .entry)) n at ⌝ }
-{
-    if n < 4096 {
-        kept[n] = at;
-    }
-}
-
-// Whether a key is new after n records of which the last has key `last`: 1, or 0. A number, since it cannot be foretold which.
-fn fresh(n: usize, last: u64, key: u64) -> usize
-    ensures { λ r. ⌜ r ≡ cond (ltb key (newFrom n last)) 0 1 ⌝ }
-    ensures { λ r. ⌜ r ≤ 1 ⌝ }
-{
-    if n == 0 {
-        return 1;
-    }
-    if last < key { 1 } else { 0 }
-}
+ghost use Rattle.keeping.specs.Folding.{mergedRun, mergeLeft, nextAt, noted, Ended, Noted, Folding};
 
 // The next record of a run noted as number n and taken.
 fn take_next(

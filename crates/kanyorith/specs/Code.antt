@@ -8,17 +8,15 @@ use mathlib.Core.Path.{_≡_, refl, sym, ap, ap₂, _∙_}
 use Prim.Native.Nat.{ℕ}
 use mathlib.Core.List.{List}
 use lib.ListN.{length}
-use borrow.Author.Tests.{eq-eqb, ne-eqb}
 use Rattle.refusal.specs.declared.Refusal.{Refusal}
-use Rattle.refusal.specs.declared.Verdict.{Verdict}
 use Rattle.refusal.specs.Table.{told, verdictOf}
 use Rattle.tray.specs.declared.RunNo.{RunNo}
 use Rattle.tray.specs.declared.Place.{Place}
-use Rattle.tray.specs.declared.check.TrayAnswer.{TrayAnswer}
-use Rattle.tray.specs.declared.check.TrayAnswer.the-variants.{Records, Refused as TrayRefused}
+use Rattle.tray.specs.declared.TrayAnswer.{TrayAnswer}
+use Rattle.tray.specs.declared.TrayAnswer.the-variants.{Records, Refused as TrayRefused}
 use Rattle.tray.specs.Check.{checkTray}
-use Rattle.index.specs.declared.check.IndexAnswer.{IndexAnswer}
-use Rattle.index.specs.declared.check.IndexAnswer.the-variants.{Segments, Refused as IndexRefused}
+use Rattle.index.specs.declared.IndexAnswer.{IndexAnswer}
+use Rattle.index.specs.declared.IndexAnswer.the-variants.{Segments, Refused as IndexRefused}
 use Rattle.index.specs.Check.{checkIndex}
 use Rattle.built.specs.declared.BuildAnswer.{BuildAnswer}
 use Rattle.built.specs.declared.BuildAnswer.the-variants.{Written as BuildWritten, Refused as BuildRefused}
@@ -26,32 +24,23 @@ use Rattle.built.specs.Build.{build, leaves}
 use Rattle.folded.specs.declared.FoldAnswer.{FoldAnswer}
 use Rattle.folded.specs.declared.FoldAnswer.the-variants.{Written as FoldWritten, Refused as FoldRefused}
 use Rattle.folded.specs.Fold.{foldAnswer, leaves as foldLeaves}
-use Rattle.walk.specs.declared.get.Gets.{Gets}
-use Rattle.walk.specs.declared.get.GetAnswer.{GetAnswer}
-use Rattle.walk.specs.declared.get.GetAnswer.the-variants.{Found as GetFound, Absent, Refused as GetRefused}
-use Rattle.walk.specs.declared.calls.SeekAnswer.{SeekAnswer}
-use Rattle.walk.specs.declared.calls.SeekAnswer.the-variants.{Found, End, Refused}
-use Rattle.walk.specs.declared.calls.Seeks.{Seeks}
+use Rattle.walk.specs.declared.Gets.{Gets}
+use Rattle.walk.specs.declared.GetAnswer.{GetAnswer}
+use Rattle.walk.specs.declared.GetAnswer.the-variants.{Found as GetFound, Absent, Refused as GetRefused}
+use Rattle.walk.specs.declared.SeekAnswer.{SeekAnswer}
+use Rattle.walk.specs.declared.SeekAnswer.the-variants.{Found, End, Refused}
+use Rattle.walk.specs.declared.Seeks.{Seeks}
 use Rattle.walk.specs.Answers.{getAnswer}
-use Rattle.listing.specs.declared.calls.Pages.{Pages}
-use Rattle.listing.specs.declared.calls.PageAnswer.{PageAnswer}
-use Rattle.listing.specs.declared.calls.PageAnswer.the-variants.{More, End as PageEnd, Refused as PageRefused}
-use Rattle.sheet.specs.declared.calls.SheetAnswer.{SheetAnswer}
-use Rattle.sheet.specs.declared.calls.SheetAnswer.the-variants.{Listed, Refused as SheetRefused}
-use Rattle.sheet.specs.Answers.{sheetAnswer, sheetLeaves}
-use Rattle.kanyorith.specs.Told.{trayTold, indexTold, buildTold, getTold, seekTold, pageTold, sheetTold, foldTold}
-use Rattle.kanyorith.specs.Cursors.{cursorNumbers}
+use Rattle.answers.specs.declared.Pages.{Pages}
+use Rattle.answers.specs.declared.PageAnswer.{PageAnswer}
+use Rattle.answers.specs.declared.PageAnswer.the-variants.{More, End as PageEnd, Refused as PageRefused}
+use Rattle.answers.specs.declared.SheetAnswer.{SheetAnswer}
+use Rattle.answers.specs.declared.SheetAnswer.the-variants.{Listed, Refused as SheetRefused}
+use Rattle.answers.specs.Sheet.{sheetAnswer, sheetLeaves}
+use Rattle.verdicts.specs.Told.{trayTold, indexTold, buildTold, getTold, seekTold, pageTold, sheetTold, foldTold}
+use Rattle.verdicts.specs.Cursors.{cursorNumbers}
 use Rattle.kanyorith.specs.Promises.{CheckTray, CheckIndex, Build, valueLeft, Get, runLeft, placeLeft, cursorLeft, Sought, pageCursorLeft, Paging, Sheet, Fold}
-use Rattle.kanyorith.specs.Wide.{narrowed, owned, build-owned, build-left, fold-owned, fold-left}
-
--- a verdict with the caller's own figure
-pub own-there : (v : Verdict) {at : ℕ} (own : ℕ) → v .number ≡ at → told at own ≡ owned at own v
-unfolding owned
-own-there v {at} own e = rw (eq-eqb (v .number) at e)
-
-pub own-else : (v : Verdict) (at own : ℕ) → (v .number ≡ at → ⊥) → told (v .number) (v .figure) ≡ owned at own v
-unfolding owned
-own-else v at own e = rw (ne-eqb (v .number) at e)
+use Rattle.verdicts.specs.Wide.{narrowed, owned, build-owned, build-left, fold-owned, fold-left}
 
 pub tray-records : {t : List ℕ} {a : TrayAnswer} {n : ℕ} → a ≡ Records n → a ≡ checkTray t → CheckTray t 0 n
 unfolding trayTold

@@ -21,9 +21,9 @@ use Rattle.tray.specs.Meaning.{runsOf}
 use Rattle.folded.specs.Fold.{foldedRun, foldAnswer, leaves, Calls, no-call, call}
 use Rattle.folded.specs.Fold.Laws.{InBounds}
 use Rattle.unchanged.specs.Unchanged.{Folded}
-use Rattle.kanyorith.specs.Told.Laws.{tray-zero, index-zero, fold-zero}
+use Rattle.verdicts.specs.Told.Laws.{tray-zero, index-zero, fold-zero}
 use Rattle.kanyorith.specs.Promises.{CheckTray, Fold}
-use Rattle.kanyorith.specs.Exactly.{FoldSays, fold-1, fold-8, fold-3, fold-2, fold-12, fold-7, fold-0, fold-exactly}
+use Rattle.verdicts.specs.Exactly.{FoldSays, fold-1, fold-8, fold-3, fold-2, fold-12, fold-7, fold-0, fold-exactly}
 use Rattle.kanyorith.specs.Reads.{Accepted}
 
 -- a chain of calls of fold of which none is refused: each folds what the one before it wrote

@@ -13,21 +13,21 @@ use Rattle.refusal.specs.Table.{told, verdictOf}
 use Rattle.tray.specs.declared.Place.{Place}
 use Rattle.tray.specs.Frame.{runCount}
 use Rattle.walk.specs.declared.cursor.Cursor.{Cursor}
-use Rattle.walk.specs.declared.calls.Seeks.{Seeks}
-use Rattle.walk.specs.declared.calls.SeekAnswer.{SeekAnswer}
-use Rattle.walk.specs.declared.calls.SeekAnswer.the-variants.{Refused}
+use Rattle.walk.specs.declared.Seeks.{Seeks}
+use Rattle.walk.specs.declared.SeekAnswer.{SeekAnswer}
+use Rattle.walk.specs.declared.SeekAnswer.the-variants.{Refused}
 use Rattle.walk.specs.Reads.{belongs}
 use Rattle.walk.specs.Code.{spotOf}
 use Rattle.walk.specs.Answers.{cursorOf}
 use Rattle.walk.specs.Answers.Hands.{Belonging, Hands, seek-hands}
-use Rattle.next.specs.Answers.Hands.{next-hands}
-use Rattle.listing.specs.declared.calls.PageAnswer.{PageAnswer}
-use Rattle.listing.specs.declared.calls.PageAnswer.the-variants.{Refused as PageRefused}
-use Rattle.listing.specs.Answers.{pageAnswer}
-use Rattle.listing.specs.Answers.Hands.{Hands as PageHands, page-hands}
-use Rattle.kanyorith.specs.Told.{seekTold, pageTold}
-use Rattle.kanyorith.specs.Told.Laws.{not-zero}
-use Rattle.kanyorith.specs.Cursors.{spotIn, cursorIn}
+use Rattle.answers.specs.Next.Hands.{next-hands}
+use Rattle.answers.specs.declared.PageAnswer.{PageAnswer}
+use Rattle.answers.specs.declared.PageAnswer.the-variants.{Refused as PageRefused}
+use Rattle.answers.specs.Page.{pageAnswer}
+use Rattle.answers.specs.Page.Hands.{Hands as PageHands, page-hands}
+use Rattle.verdicts.specs.Told.{seekTold, pageTold}
+use Rattle.verdicts.specs.Told.Laws.{not-zero}
+use Rattle.verdicts.specs.Cursors.{spotIn, cursorIn}
 use Rattle.kanyorith.specs.Promises.{Sought, Seek, Next, Page}
 use Rattle.kanyorith.specs.Reads.{page-moved, seek-moved}
 

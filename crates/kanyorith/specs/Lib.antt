@@ -3,12 +3,6 @@
 pub mod Theorems
 -- a promise for each call
 pub mod Promises
--- when each number is given
-pub mod Exactly
--- number and figure of each answer
-pub mod Told
--- a cursor as 66 numbers
-pub mod Cursors
 -- reading through an accepted index
 pub mod Reads
 -- folding, before and after
@@ -19,7 +13,5 @@ pub mod Handed
 pub mod Left
 -- what holds along any walk
 pub mod Walks
--- numbers that are wider than the library's own
-pub mod Wide
 -- each way out of a call, as its promise
 pub mod Code

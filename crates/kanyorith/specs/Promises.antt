@@ -10,20 +10,20 @@ use Rattle.index.specs.Check.{checkIndex}
 use Rattle.built.specs.Build.{build, leaves}
 use Rattle.folded.specs.Fold.{foldAnswer, leaves as foldLeaves}
 use Rattle.walk.specs.declared.cursor.Cursor.{Cursor}
-use Rattle.walk.specs.declared.get.GetAnswer.{GetAnswer}
-use Rattle.walk.specs.declared.get.GetAnswer.the-variants.{Found as GetFound, Absent, Refused as GetRefused}
-use Rattle.walk.specs.declared.calls.SeekAnswer.{SeekAnswer}
-use Rattle.walk.specs.declared.calls.SeekAnswer.the-variants.{Found, End, Refused}
-use Rattle.walk.specs.declared.calls.Seeks.{Seeks}
+use Rattle.walk.specs.declared.GetAnswer.{GetAnswer}
+use Rattle.walk.specs.declared.GetAnswer.the-variants.{Found as GetFound, Absent, Refused as GetRefused}
+use Rattle.walk.specs.declared.SeekAnswer.{SeekAnswer}
+use Rattle.walk.specs.declared.SeekAnswer.the-variants.{Found, End, Refused}
+use Rattle.walk.specs.declared.Seeks.{Seeks}
 use Rattle.walk.specs.Answers.{getAnswer, seekAnswer}
-use Rattle.next.specs.Answers.{nextAnswer}
-use Rattle.listing.specs.declared.calls.PageAnswer.{PageAnswer}
-use Rattle.listing.specs.declared.calls.PageAnswer.the-variants.{More, End as PageEnd, Refused as PageRefused}
-use Rattle.listing.specs.declared.calls.Pages.{Pages}
-use Rattle.listing.specs.Answers.{pageAnswer, pageLeaves}
-use Rattle.sheet.specs.Answers.{sheetAnswer, sheetLeaves}
-use Rattle.kanyorith.specs.Told.{trayTold, indexTold, buildTold, getTold, seekTold, pageTold, sheetTold, foldTold}
-use Rattle.kanyorith.specs.Cursors.{cursorIn, cursorNumbers}
+use Rattle.answers.specs.Next.{nextAnswer}
+use Rattle.answers.specs.declared.PageAnswer.{PageAnswer}
+use Rattle.answers.specs.declared.PageAnswer.the-variants.{More, End as PageEnd, Refused as PageRefused}
+use Rattle.answers.specs.declared.Pages.{Pages}
+use Rattle.answers.specs.Page.{pageAnswer, pageLeaves}
+use Rattle.answers.specs.Sheet.{sheetAnswer, sheetLeaves}
+use Rattle.verdicts.specs.Told.{trayTold, indexTold, buildTold, getTold, seekTold, pageTold, sheetTold, foldTold}
+use Rattle.verdicts.specs.Cursors.{cursorIn, cursorNumbers}
 
 -- check tray
 pub record CheckTray (tray : List ℕ) (number figure : ℕ) : Type 0 where

@@ -30,14 +30,14 @@ use Rattle.theory.specs.Tests.{split, never}
 use Rattle.tray.specs.Frame.{runCount, runBytes}
 use Rattle.tray.specs.Run.{recordAt}
 use Rattle.index.specs.Check.{checkIndex}
-use Rattle.walk.specs.declared.get.Gets.{Gets}
+use Rattle.walk.specs.declared.Gets.{Gets}
 use Rattle.walk.specs.declared.cursor.Cursor.{Cursor}
 use Rattle.tray.specs.declared.Place.{Place}
 use Rattle.walk.specs.Code.{numbers, spotOf}
-use Rattle.kanyorith.specs.Cursors.{spotIn, cursorIn, cursorNumbers}
-use Rattle.walk.specs.declared.calls.Seeks.{Seeks}
-use Rattle.walk.specs.declared.calls.SeekAnswer.{SeekAnswer}
-use Rattle.walk.specs.declared.calls.SeekAnswer.the-variants.{Found, End, Refused}
+use Rattle.verdicts.specs.Cursors.{spotIn, cursorIn, cursorNumbers}
+use Rattle.walk.specs.declared.Seeks.{Seeks}
+use Rattle.walk.specs.declared.SeekAnswer.{SeekAnswer}
+use Rattle.walk.specs.declared.SeekAnswer.the-variants.{Found, End, Refused}
 use Rattle.walk.specs.Walk.Spots.{Reading, check-reading, Stop, spots}
 use Rattle.walk.specs.Walk.Tours.{firstOf, each-at}
 use Rattle.walk.specs.Reads.{Got, value, absent, Found as Sighted, next, Written, page, belongs}
@@ -53,17 +53,17 @@ use Rattle.walk.specs.Walk.{Spot, Walked, ended, lost}
 use Rattle.walk.specs.Reads.Seek.{lookup, points, isFrom, from, seek-is, shown-shows}
 use Rattle.walk.specs.Answers.{cursorOf, gotTold, getAnswer, refusedSeek, seekTold as seekBy, seekFramed, seekAnswer}
 use Rattle.walk.specs.Answers.Hands.{spot-back}
-use Rattle.next.specs.Answers.{refusedNext, nextTold, nextFramed, nextAnswer}
-use Rattle.listing.specs.declared.calls.PageAnswer.{PageAnswer}
-use Rattle.listing.specs.declared.calls.PageAnswer.the-variants.{More, End as PageEnd, Refused as PageRefused}
-use Rattle.listing.specs.Answers.{pageAnswer}
-use Rattle.sheet.specs.declared.calls.SheetAnswer.{SheetAnswer}
-use Rattle.sheet.specs.Answers.{prefixLong, prefixLast, listedIn, sheetAnswer, sheetLeaves}
+use Rattle.answers.specs.Next.{refusedNext, nextTold, nextFramed, nextAnswer}
+use Rattle.answers.specs.declared.PageAnswer.{PageAnswer}
+use Rattle.answers.specs.declared.PageAnswer.the-variants.{More, End as PageEnd, Refused as PageRefused}
+use Rattle.answers.specs.Page.{pageAnswer}
+use Rattle.answers.specs.declared.SheetAnswer.{SheetAnswer}
+use Rattle.answers.specs.Sheet.{prefixLong, prefixLast, listedIn, sheetAnswer, sheetLeaves}
 use Rattle.unchanged.specs.Paged.{PageCalls, last-page, page-then, calls-pages, pages-from}
 use Rattle.unchanged.specs.Read.{onward, get-answers, fits-frames, onward-are, prefixed, sheetOf, sheet-answers, sheet-records}
-use Rattle.kanyorith.specs.Told.{getTold, seekTold, pageTold, sheetTold}
-use Rattle.kanyorith.specs.Exactly.Quick.{NextSays, next-1, next-4, next-11, next-10, next-found, next-end as next-end-0, next-exactly, PageSays, page-1, page-4, page-11, page-10, page-more as page-more-1, page-end as page-end-0, page-exactly}
-use Rattle.kanyorith.specs.Told.Laws.{not-zero, index-zero, page-more, page-end}
+use Rattle.verdicts.specs.Told.{getTold, seekTold, pageTold, sheetTold}
+use Rattle.verdicts.specs.Exactly.Quick.{NextSays, next-1, next-4, next-11, next-10, next-found, next-end as next-end-0, next-exactly, PageSays, page-1, page-4, page-11, page-10, page-more as page-more-1, page-end as page-end-0, page-exactly}
+use Rattle.verdicts.specs.Told.Laws.{not-zero, index-zero, page-more, page-end}
 use Rattle.kanyorith.specs.Promises.{CheckIndex, valueLeft, Get, runLeft, placeLeft, cursorLeft, Sought, Seek, Next, pageCursorLeft, Page, Sheet}
 
 -- check index accepts the index for the tray

@@ -1,33 +1,30 @@
 // The public face (document 01): one call for each of its calls, for C and Rust alike. Every call takes bytes of every sort and ends. It
 // answers the number of a refusal, or 0, and its figure beside it; what each call promises stands in `specs/Promises.antt`, and what follows
 // from the promises in `specs/Theorems.antt`. The declarations for C are in `include/kanyorith.h`.
-mod cursor;
-mod told;
-
-use crate::cursor::cursor_in;
-use crate::cursor::put_cursor;
-use crate::told::narrow;
-use crate::told::refuse;
-use crate::told::refuse_own;
+use answers::PageAnswer;
+use answers::SheetAnswer;
 use build::build;
 use built::BuildAnswer;
 use fold::fold;
 use folded::FoldAnswer;
-use index::check::IndexAnswer;
-use index::check::check_index;
-use listing::calls::PageAnswer;
-use listing::calls::page;
+use get::get;
+use handing::cursor::cursor_in;
+use handing::cursor::put_cursor;
+use handing::told::narrow;
+use handing::told::refuse;
+use handing::told::refuse_own;
+use index::IndexAnswer;
+use judging::check_index;
+use listing::page;
 use next::calls::next;
-use sheet::calls::SheetAnswer;
-use sheet::calls::sheet;
+use seek::seek;
+use sheet::sheet;
+use sound::check_tray;
 use tray::RunNo;
-use tray::check::TrayAnswer;
-use tray::check::check_tray;
-use walk::calls::SeekAnswer;
-use walk::calls::Seeks;
-use walk::calls::seek;
-use walk::get::GetAnswer;
-use walk::get::get;
+use tray::TrayAnswer;
+use walk::GetAnswer;
+use walk::SeekAnswer;
+use walk::Seeks;
 ghost use Rattle.kanyorith.specs.Promises.{CheckTray, CheckIndex, Build, Get, Sought, Seek, Next, Page, Sheet, Fold};
 
 // Check tray: 0 and the records, or 1, 3 or 2.

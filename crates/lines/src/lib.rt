@@ -1,35 +1,21 @@
 // The line language of the program `drawer` (document 01): one line in, the kept tray and index and the answer line out. A line is any bytes
 // without a line feed; what it does and says is `turn`, for every line.
-pub mod answers;
-pub mod digits;
-pub mod frames;
-
-use crate::answers::put_short;
-use crate::digits::all_digits;
-use crate::digits::decode;
-use crate::frames::keep_index;
-use crate::frames::keep_tray;
-use crate::frames::list;
-use crate::frames::look_up;
+use digits::all_digits;
+use digits::decode;
+use frames::keep_index;
+use frames::keep_tray;
+use frames::list;
+use frames::look_up;
+use frames::says::put_short;
 use number::wide_32;
+use turns::Kept;
+use turns::Told;
 ghost use mathlib.Core.Path.{_≡_};
 ghost use Prim.Native.Nat.{_≤_};
 ghost use lib.ListN.{length, take};
-ghost use Rattle.lines.specs.Line.{roomSize, badAnswer, formed as formedLine, turn, answerLine};
-ghost use Rattle.lines.specs.Line.Front.{lineSize, Front};
-ghost use Rattle.lines.specs.Line.Turns.{Buffers, Answered, readSays, heard};
-
-// How many bytes at the front of their buffers the kept tray and index have.
-pub struct Kept {
-    pub tray: usize,
-    pub index: usize,
-}
-
-// What is kept after a line, and the length of its answer line.
-pub struct Told {
-    pub kept: Kept,
-    pub length: usize,
-}
+ghost use Rattle.turns.specs.Line.{roomSize, badAnswer, formed as formedLine, turn, answerLine};
+ghost use Rattle.turns.specs.Line.Front.{lineSize, Front};
+ghost use Rattle.turns.specs.Turns.{Buffers, Answered, readSays, heard};
 
 // A line is 1 to 32,770 digits, an even number of them.
 fn formed(line: &[u8]) -> bool

@@ -1,7 +1,5 @@
--- Whether a cursor belongs, and going on from it to the next visible record, for every tray, index and cursor.
--- whether a cursor belongs, as the code reckons it
-pub mod Standing
+-- Going on from a cursor to the next visible record, for every tray, index and cursor.
 -- past the current selector, and on
 pub mod Next
--- next's answer for every input
-pub mod Answers
+-- what the code needs of the answer
+pub mod Code

@@ -2,19 +2,19 @@
 use crate::next::next_ends;
 use crate::next::next_from;
 use crate::next::next_refused;
-use crate::standing::belongs;
-use crate::standing::place_numbers;
 use index::frame::IndexFrame;
 use index::frame::index_frame;
 use refusal::Refusal;
+use standing::belongs;
+use standing::place_numbers;
 use tray::frame::TrayFrame;
 use tray::frame::tray_frame;
-use walk::calls::Seeks;
+use walk::Seeks;
 use walk::cursor::Cursor;
 ghost use mathlib.Core.Path.{_≡_};
 ghost use Rattle.tray.specs.Frame.{Opened};
 ghost use Rattle.index.specs.Layout.Code.{Laid};
-ghost use Rattle.next.specs.Answers.{nextAnswer, nextFramed};
+ghost use Rattle.answers.specs.Next.{nextAnswer, nextFramed};
 
 // Next where both frames fit.
 fn next_framed(t: &[u8], x: &[u8], f: TrayFrame, d: u8, n: u32, from: Cursor) -> Seeks

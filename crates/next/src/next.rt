@@ -7,8 +7,8 @@ use refusal::Refusal;
 use tray::Place;
 use tray::RunNo;
 use tray::frame::count_of;
-use walk::calls::SeekAnswer;
-use walk::calls::Seeks;
+use walk::SeekAnswer;
+use walk::Seeks;
 use walk::cursor::Cursor;
 use walk::cursor::load;
 ghost use mathlib.Core.Path.{_≡_};
@@ -16,12 +16,13 @@ ghost use Prim.Native.Nat.{_+_, _*_, _%_, _≤_, _<_};
 ghost use mathlib.Core.Bool.{_||_};
 ghost use lib.ListN.{length, getD};
 ghost use lib.Dec.{eqb};
-ghost use Rattle.walk.specs.declared.calls.SeekAnswer.the-variants.{End as TheEnd};
+ghost use Rattle.walk.specs.declared.SeekAnswer.the-variants.{End as TheEnd};
 ghost use Rattle.tray.specs.Frame.{runCount};
 ghost use Rattle.walk.specs.Walk.{walkFrom, named as namedBy};
 ghost use Rattle.walk.specs.Reads.{next as nextOf};
 ghost use Rattle.walk.specs.Code.{placed, numbers, spotOf};
-ghost use Rattle.next.specs.Answers.{nextTold, refusedNext, endAt, foundNext};
+ghost use Rattle.walk.specs.Answers.{endAt};
+ghost use Rattle.answers.specs.Next.{nextTold, refusedNext, foundNext};
 ghost use Rattle.next.specs.Next.{Going, visibleVisit, passedBy};
 
 // A refused next hands back the cursor that it was given.

@@ -1,73 +1,14 @@
-// The lines of an input that comes in pieces, and their answers: what is carried from piece to piece, and what a piece adds. It neither reads nor
-// writes; what it does with any pieces is `feed`, as if all bytes came at once.
-use lines::Kept;
+// The lines of an input that comes in pieces, and their answers: what a piece adds to what is carried. It neither reads nor writes; what it does
+// with any pieces is `feed`, as if all bytes came at once.
+use feed::gather;
+use feed::line_end;
 use lines::answer_line;
-use lines::digits::copy;
+use turns::Carried;
+use turns::Taken;
 ghost use mathlib.Core.Path.{_≡_};
 ghost use Prim.Native.Nat.{_≤_};
-ghost use mathlib.Core.List.{_++_};
-ghost use lib.ListN.{length, take};
-ghost use Rattle.lines.specs.Line.Front.{Front};
-ghost use Rattle.reading.specs.Feed.Code.{gatherSize, lastRoom, first, LineEnd, Rooms, Answers, Ends, Takes, Finishes};
-
-// What is carried: the kept tray and index, the number of the line that is being read, how many of its characters are gathered, and how much of
-// the output is filled.
-pub struct Carried {
-    pub kept: Kept,
-    pub number: u32,
-    pub gathered: usize,
-    pub filled: usize,
-}
-
-// What is carried behind a piece, and how far the piece has been taken.
-pub struct Taken {
-    pub carried: Carried,
-    pub at: usize,
-}
-
-// What is carried before the first byte of an input.
-pub fn begin() -> Carried
-    ensures { λ r. ⌜ r ≡ first ⌝ }
-{
-    Carried {
-        kept: Kept { tray: 0, index: 0 },
-        number: 1,
-        gathered: 0,
-        filled: 0,
-    }
-}
-
-// Where the line ends that goes on at a place: at its line feed, or where the piece ends.
-fn line_end(piece: &[u8], from: usize) -> usize
-    requires { ⌜ from ≤ length (now piece) ⌝ }
-    ensures { λ r. ⌜ LineEnd (now (piece .entry)) from r ⌝ }
-{
-    let n = piece.len();
-    let mut i = from;
-    while i < n {
-        if piece[i] == 10 {
-            return i;
-        }
-        i += 1;
-    }
-    i
-}
-
-// Characters put behind those that are gathered. From the first one on that makes the line over-long they are dropped.
-fn gather(part: &[u8], line: &mut [u8], gathered: usize) -> usize
-    requires { ⌜ (length (now line) ≡ gatherSize) × (gathered ≤ gatherSize) ⌝ }
-    ensures { λ r. ⌜ Front r gatherSize (now (line .exit)) (take gatherSize (take gathered (now (line .entry)) ++ now (part .entry))) ⌝ }
-{
-    let left = 32771 - gathered;
-    let n = part.len();
-    if n <= left {
-        let end = gathered + n;
-        copy(part, &mut line[gathered..end]);
-        return end;
-    }
-    copy(&part[..left], &mut line[gathered..]);
-    32771
-}
+ghost use lib.ListN.{length};
+ghost use Rattle.turns.specs.Feed.Code.{gatherSize, lastRoom, Rooms, Answers, Ends, Takes, Finishes};
 
 // The turn of a line that has ended: its answer line goes behind what the output holds.
 fn answer(

@@ -13,14 +13,14 @@ use Rattle.theory.specs.Merge.{hidden, over, merged, fold}
 use Rattle.theory.specs.View.{spread, entriesFrom, view, old}
 use Rattle.theory.specs.Places.{count}
 use Rattle.theory.specs.Pack.{joined, grouped, groups, packOn, pack}
-use Rattle.tray.specs.declared.check.TrayAnswer.{TrayAnswer}
-use Rattle.tray.specs.declared.check.TrayAnswer.the-variants.{Records, Refused as TrayRefused}
+use Rattle.tray.specs.declared.TrayAnswer.{TrayAnswer}
+use Rattle.tray.specs.declared.TrayAnswer.the-variants.{Records, Refused as TrayRefused}
 use Rattle.tray.specs.Frame.{runCount, countOf, recordsBefore, startOf, runBytes, headerFits, countsFit, framed}
 use Rattle.tray.specs.Run.{recordFrom, kindWrong, keyWrong, judgeFrom}
 use Rattle.tray.specs.Check.{afterRun, checkRuns, checkTray}
 use Rattle.tray.specs.Meaning.{runOf, runsOf, recordBytes, recordsBytes, countsBytes, runsBytes, trayBytes, total}
-use Rattle.index.specs.declared.check.IndexAnswer.{IndexAnswer}
-use Rattle.index.specs.declared.check.IndexAnswer.the-variants.{Segments, Refused as IndexRefused}
+use Rattle.index.specs.declared.IndexAnswer.{IndexAnswer}
+use Rattle.index.specs.declared.IndexAnswer.the-variants.{Segments, Refused as IndexRefused}
 use Rattle.index.specs.Layout.{sizeOf, segmentCount, headSize, segmentAt, Segment, indexFramed}
 use Rattle.index.specs.Rules.{selectorOf}
 use Rattle.index.specs.Scan.{marked, raise, begins, joins, offsetsHold, onlyPlaceholders, nextIn, hasNext, headsAbove, usedUp, names, closed, following, selectorsScan, segmentScan, scanFrom}
@@ -31,12 +31,12 @@ use Rattle.built.specs.Build.{cuts, anchorOf, offsetsBytes, segmentBytes, segme
 use Rattle.folded.specs.declared.FoldAnswer.{FoldAnswer}
 use Rattle.folded.specs.declared.FoldAnswer.the-variants.{Written as FoldWritten, Refused as FoldRefused}
 use Rattle.folded.specs.Fold.{foldedRun, foldedRuns, foldBytes, foldSize, boundsHold, afterCheck as afterFold, foldAnswer, leaves as foldLeaves}
-use Rattle.walk.specs.declared.calls.Seeks.{Seeks}
-use Rattle.walk.specs.declared.calls.SeekAnswer.{SeekAnswer}
-use Rattle.walk.specs.declared.calls.SeekAnswer.the-variants.{Found as SeekFound, End as SeekEnd, Refused as SeekRefused}
-use Rattle.walk.specs.declared.get.Gets.{Gets}
-use Rattle.walk.specs.declared.get.GetAnswer.{GetAnswer}
-use Rattle.walk.specs.declared.get.GetAnswer.the-variants.{Found as GetFound, Absent, Refused as GetRefused}
+use Rattle.walk.specs.declared.Seeks.{Seeks}
+use Rattle.walk.specs.declared.SeekAnswer.{SeekAnswer}
+use Rattle.walk.specs.declared.SeekAnswer.the-variants.{Found as SeekFound, End as SeekEnd, Refused as SeekRefused}
+use Rattle.walk.specs.declared.Gets.{Gets}
+use Rattle.walk.specs.declared.GetAnswer.{GetAnswer}
+use Rattle.walk.specs.declared.GetAnswer.the-variants.{Found as GetFound, Absent, Refused as GetRefused}
 use Rattle.walk.specs.Start.{probe, start}
 use Rattle.walk.specs.Walk.{loaded, named, walkSelectors, walkSegments}
 use Rattle.walk.specs.Reads.{recordBy, unmarked, endSpot, foundBy, seekVisit, seek, gotFrom, get}

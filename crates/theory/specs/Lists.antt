@@ -15,9 +15,7 @@ use Prim.Native.Nat.{ℕ, zero, suc, _+_, _≤_, _<_}
 use native.Mathlib.Nat.{not-suc-le-zero}
 use native.Mathlib.Omega.{arith}
 use mathlib.Core.Option.{Option, none, some, Option·some-injective}
-use mathlib.Core.List.{List, [], _∷_, _++_, append-nil, head-eq-of-cons-eq, tail-eq-of-cons-eq}
-use mathlib.Core.List.{List·Memᴰ·head, List·Memᴰ·tail, List·Memᴰ·not-nil, List·Memᴰ·cases-cons}
-use mathlib.Core.List.{IsChain, rel-of-isChain-cons-cons, isChain-of-isChain-cons}
+use mathlib.Core.List.{List, [], _∷_, _++_, append-nil, head-eq-of-cons-eq, tail-eq-of-cons-eq, List·Memᴰ·head, List·Memᴰ·tail, List·Memᴰ·not-nil, List·Memᴰ·cases-cons, IsChain, rel-of-isChain-cons-cons, isChain-of-isChain-cons}
 use lib.ListN.{length, getD, take, drop, getElem?, length-append, take-append-drop, drop-of-length-le}
 use lib.Seq.{drop-drop, drop-at}
 use Rattle.theory.specs.Tests.{never}

@@ -10,8 +10,8 @@ use lib.Dec.{leb, ltb, eqb}
 use Rattle.number.specs.Big.{be}
 use Rattle.theory.specs.Records.{Record}
 use Rattle.tray.specs.declared.Place.{Place}
-use Rattle.tray.specs.declared.run.RunAnswer.{RunAnswer}
-use Rattle.tray.specs.declared.run.RunAnswer.the-variants.{Right, WrongKind, WrongKey}
+use Rattle.tray.specs.declared.RunAnswer.{RunAnswer}
+use Rattle.tray.specs.declared.RunAnswer.the-variants.{Right, WrongKind, WrongKey}
 
 -- the record that starts at a byte
 unfoldable pub recordFrom : List ℕ → ℕ → Record

@@ -31,10 +31,10 @@ use Rattle.walk.specs.Reads.Pages.{bytesIn, Pages, pages-end, pages-on, pages-a
 use Rattle.walk.specs.Code.{spotOf}
 use Rattle.walk.specs.Answers.{cursorOf, inFrames, refusedSeek, seekTold, seekFramed, seekAnswer}
 use Rattle.walk.specs.Answers.Hands.{spot-back}
-use Rattle.listing.specs.declared.calls.Pages.{Pages as Answered}
-use Rattle.listing.specs.declared.calls.PageAnswer.{PageAnswer}
-use Rattle.listing.specs.declared.calls.PageAnswer.the-variants.{More, End, Refused}
-use Rattle.listing.specs.Answers.{refusedPage, pageTold, pageLeft, pageFramed, leftFramed, pageAnswer, pageLeaves}
+use Rattle.answers.specs.declared.Pages.{Pages as Answered}
+use Rattle.answers.specs.declared.PageAnswer.{PageAnswer}
+use Rattle.answers.specs.declared.PageAnswer.the-variants.{More, End, Refused}
+use Rattle.answers.specs.Page.{refusedPage, pageTold, pageLeft, pageFramed, leftFramed, pageAnswer, pageLeaves}
 use Rattle.unchanged.specs.Read.{onward, onward-are, fits-frames}
 
 -- calls of page, number i into its own output, from a cursor on: what they have written, put together

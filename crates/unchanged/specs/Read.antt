@@ -23,8 +23,8 @@ use Rattle.tray.specs.Frame.{runCount, runBytes}
 use Rattle.tray.specs.Frame.Laws.{fits-framed}
 use Rattle.tray.specs.Run.{recordAt}
 use Rattle.index.specs.Layout.Laws.{fits-index}
-use Rattle.walk.specs.declared.calls.SeekAnswer.{SeekAnswer}
-use Rattle.walk.specs.declared.calls.SeekAnswer.the-variants.{Found, End, Refused}
+use Rattle.walk.specs.declared.SeekAnswer.{SeekAnswer}
+use Rattle.walk.specs.declared.SeekAnswer.the-variants.{Found, End, Refused}
 use Rattle.walk.specs.Walk.{Walked}
 use Rattle.walk.specs.Walk.Spots.{Reading, Stop}
 use Rattle.walk.specs.Walk.Tours.{firstOf}
@@ -33,9 +33,9 @@ use Rattle.walk.specs.Reads.Kept.{keep-map}
 use Rattle.walk.specs.Reads.Shown.{foundAt, pointOf, shown, Shows, shown-merged}
 use Rattle.walk.specs.Reads.Sheet.{Lists, to-bound, to-end, within, sheet-is}
 use Rattle.walk.specs.Reads.Seek.{isFrom, from, lookup, points, seek-is, get-is, shown-shows}
-use Rattle.sheet.specs.declared.calls.SheetAnswer.{SheetAnswer}
-use Rattle.sheet.specs.declared.calls.SheetAnswer.the-variants.{Refused as SheetRefused}
-use Rattle.sheet.specs.Answers.{prefixLong, prefixLast, listedIn, sheetTold, recordsOf, sheetFramed, sheetAnswer}
+use Rattle.answers.specs.declared.SheetAnswer.{SheetAnswer}
+use Rattle.answers.specs.declared.SheetAnswer.the-variants.{Refused as SheetRefused}
+use Rattle.answers.specs.Sheet.{prefixLong, prefixLast, listedIn, sheetTold, recordsOf, sheetFramed, sheetAnswer}
 use Rattle.walk.specs.Answers.{inFrames, refusedSeek, seekTold, seekFramed, seekAnswer, refusedGet, gotTold, getFramed, getAnswer}
 
 -- a point as a reader sees it: key and value

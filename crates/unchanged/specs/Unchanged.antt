@@ -15,7 +15,7 @@ use Rattle.number.specs.Big.{be, put, Bytes}
 use Rattle.theory.specs.Records.{Record}
 use Rattle.theory.specs.Rising.{keep}
 use Rattle.tray.specs.Check.{Sound}
-use Rattle.index.specs.declared.check.IndexAnswer.the-variants.{Segments}
+use Rattle.index.specs.declared.IndexAnswer.the-variants.{Segments}
 use Rattle.index.specs.Check.{checkIndex}
 use Rattle.walk.specs.Walk.Spots.{Reading, check-reading}
 use Rattle.walk.specs.Reads.Shown.{pointOf}
@@ -24,9 +24,9 @@ use Rattle.walk.specs.Reads.{lowKey, highKey}
 use Rattle.walk.specs.Reads.Page.{listing}
 use Rattle.walk.specs.Reads.Sheet.{within}
 use Rattle.walk.specs.Answers.{seekAnswer, gotTold, getAnswer}
-use Rattle.sheet.specs.declared.calls.SheetAnswer.{SheetAnswer}
-use Rattle.sheet.specs.declared.calls.SheetAnswer.the-variants.{Listed, Refused}
-use Rattle.sheet.specs.Answers.{sheetAnswer, sheetLeaves}
+use Rattle.answers.specs.declared.SheetAnswer.{SheetAnswer}
+use Rattle.answers.specs.declared.SheetAnswer.the-variants.{Listed, Refused}
+use Rattle.answers.specs.Sheet.{sheetAnswer, sheetLeaves}
 use Rattle.folded.specs.Fold.{Calls}
 use Rattle.folded.specs.Fold.Chains.{calls-visible}
 use Rattle.unchanged.specs.Read.{pointAt, firstPoint, onward, onward-are, get-answers, seek-answers, prefixed, sheetOf, sheet-answers, sheet-records}

@@ -14,11 +14,11 @@ use Rattle.walk.specs.declared.cursor.Cursor.{Cursor}
 use Rattle.walk.specs.declared.cursor.Sight.{Sight}
 use Rattle.walk.specs.declared.cursor.Sight.the-variants.{Found as SightFound, End as SightEnd, Lost as SightLost}
 use Rattle.walk.specs.declared.cursor.Sought.{Sought}
-use Rattle.walk.specs.declared.calls.Seeks.{Seeks}
-use Rattle.walk.specs.declared.calls.SeekAnswer.the-variants.{Found, End, Refused}
-use Rattle.walk.specs.declared.get.Gets.{Gets}
-use Rattle.walk.specs.declared.get.GetAnswer.{GetAnswer}
-use Rattle.walk.specs.declared.get.GetAnswer.the-variants.{Found as GetFound, Absent, Refused as GetRefused}
+use Rattle.walk.specs.declared.Seeks.{Seeks}
+use Rattle.walk.specs.declared.SeekAnswer.the-variants.{Found, End, Refused}
+use Rattle.walk.specs.declared.Gets.{Gets}
+use Rattle.walk.specs.declared.GetAnswer.{GetAnswer}
+use Rattle.walk.specs.declared.GetAnswer.the-variants.{Found as GetFound, Absent, Refused as GetRefused}
 use Rattle.walk.specs.Walk.{Spot, Walked, stayed, ended, lost}
 use Rattle.walk.specs.Reads.{seek, endSpot, Got, value, absent, get-lost, get}
 
@@ -29,6 +29,10 @@ cursorOf c = record { segment = record { 0 = c .segment }; selector = c .selecto
 -- the cursor of a refused seek
 unfoldable pub noCursor : Cursor
 noCursor = record { segment = record { 0 = 0 }; selector = 0; places = replicate 63 (record { 0 = 0 }) }
+
+-- the end of an index of n segments, as the code hands it over
+abbrev pub endAt : ℕ → Cursor
+endAt n = record { segment = record { 0 = n }; selector = 0; places = replicate 63 (record { 0 = 0 }) }
 
 -- a refused seek
 abbrev pub refusedSeek : Refusal → Seeks
@@ -55,7 +59,7 @@ seekAnswer t x key = inFrames refusedSeek t x (seekFramed t x (be 8 key 0))
 -- the same of what the code's walk hands over, for an index of n segments
 abbrev pub toldAs : ℕ → Sight → Cursor → Seeks
 toldAs n (SightFound run place) c = record { answer = Found run place; cursor = c }
-toldAs n SightEnd c = record { answer = End; cursor = record { segment = record { 0 = n }; selector = 0; places = replicate 63 (record { 0 = 0 }) } }
+toldAs n SightEnd c = record { answer = End; cursor = endAt n }
 toldAs n (SightLost g s) c = refusedSeek (Lost g s)
 
 abbrev pub toldSeek : ℕ → Sought → Seeks

@@ -1,7 +1,7 @@
 -- `answering::read_all` is safe and ends. Invariant: one more answer line has room. Measure: the turns left. Assumes nothing.
 use lib.ListN.{length}
 use mathlib.Core.Path.{_≡_, refl, sym, _∙_}
-use Rattle.answering.specs.Ready.{Ready, ready-first}
+use Rattle.serving.specs.Ready.{Ready, ready-first}
 use native.Mathlib.Omega.{arith}
 use Rattle.answering.proofs.read_all.Statement.{statement}
 use Rattle.answering.proofs.read_all.Tie as tie

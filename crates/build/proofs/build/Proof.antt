@@ -1,6 +1,6 @@
 -- `build::build` meets its contract: the tests that led to each answer are those of the definition, in its order. Assumes nothing.
 use mathlib.Core.Logic.{⊎-elim}
-use Rattle.build.specs.Code.Answers.{answer-frame, answer-low, answer-high, answer-refused, answer-sound, sounded-is, leaves-same}
+use Rattle.build.specs.Answers.{answer-frame, answer-low, answer-high, answer-refused, answer-sound, sounded-is, leaves-same}
 use mathlib.Core.Path.{sym, _∙_}
 use native.Mathlib.Omega.{arith}
 use borrow.Author.Needs.{needs}

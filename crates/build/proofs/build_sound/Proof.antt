@@ -1,5 +1,5 @@
 -- `build::build_sound` meets its contract: where the room is surely enough, or is after counting, the index is written. Assumes nothing.
-use Rattle.build.specs.Code.Answers.{size-is, records-low, part-low, most-room, answer-fits, answer-short, leaves-index, leaves-same}
+use Rattle.build.specs.Answers.{size-is, records-low, part-low, most-room, answer-fits, answer-short, leaves-index, leaves-same}
 use Rattle.tray.specs.Meaning.{runsOf}
 use Rattle.number.proofs.Known.{bytes-known}
 use Prim.Native.Nat.{_+_}

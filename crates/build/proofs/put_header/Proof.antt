@@ -1,5 +1,5 @@
 -- `build::put_header` meets its contract: four bytes and a number, one right behind the other. Assumes nothing.
-use Rattle.build.specs.Code.Answers.{header-is}
+use Rattle.build.specs.Answers.{header-is}
 use lib.ListN.{length-set}
 use mathlib.Core.Path.{_∙_}
 use native.Mathlib.Omega.{arith}

@@ -1,5 +1,5 @@
 -- `build::write_index` meets its contract: the header stands before the segments. Assumes nothing.
-use Rattle.build.specs.Code.Answers.{size-is, index-is, size-least}
+use Rattle.build.specs.Answers.{size-is, index-is, size-least}
 use Rattle.tray.specs.Meaning.{runsOf}
 use native.Mathlib.Omega.{arith}
 use borrow.Author.Needs.{needs}

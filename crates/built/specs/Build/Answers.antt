@@ -21,7 +21,7 @@ use Rattle.number.specs.Big.Writes.{length-put, take-put, drop-put}
 use Rattle.refusal.specs.declared.Refusal.{Refusal}
 use Rattle.refusal.specs.declared.Refusal.the-variants.{TrayFrame, KeyOrder, RecordKind, IndexFrame, Segment, SegmentSize, Room, Bounds, PrefixEnd, Lost, Cursor, RunLength}
 use Rattle.theory.specs.Tests.{split, cases, clash, and-true, and-left, and-right}
-use Rattle.tray.specs.declared.check.TrayAnswer.{TrayAnswer}
+use Rattle.tray.specs.declared.TrayAnswer.{TrayAnswer}
 use Rattle.tray.specs.Frame.{runCount, recordsBefore, Framed, framed}
 use Rattle.tray.specs.Frame.Laws.{framed-fits, fits-framed}
 use Rattle.tray.specs.Check.{checkTray, Sound, Says, refused-1, refused-2, refused-3, records}

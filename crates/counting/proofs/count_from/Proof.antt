@@ -6,7 +6,7 @@ use lib.ListN.{length, length-map}
 use Rattle.walk.specs.Reads.{sheetVisit}
 use Rattle.walk.specs.Code.Turns.{within}
 use Rattle.gathering.specs.Stops.Laws.{gathered-within}
-use Rattle.listing.specs.Steps.{onward-from}
+use Rattle.points.specs.Steps.{onward-from}
 use Rattle.counting.specs.Count.{countedAs}
 use Rattle.counting.specs.Count.Code.{Counting, counting-first, counting-fits, counting-on, counting-enter, counted, counted-few, counted-past, counted-lost, counted-end}
 use native.Mathlib.Omega.{arith}

@@ -3,7 +3,7 @@
 use mathlib.Core.Path.{refl}
 use Prim.Native.Nat.{_-_}
 use Rattle.gathering.specs.Stops.Laws.{within-at}
-use Rattle.listing.specs.Put.Code.{part-long}
+use Rattle.points.specs.Put.Code.{part-long}
 use Rattle.counting.specs.Count.Code.{Seeking, seeking-first, seeking-more, past-here, past-end}
 use native.Mathlib.Omega.{arith}
 use Rattle.counting.proofs.first_past.Statement.{statement}

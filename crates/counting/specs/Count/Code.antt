@@ -32,7 +32,7 @@ use Rattle.walk.specs.Code.Load.{loadedFrom}
 use Rattle.walk.specs.Code.Turns.{Here, here-enter}
 use Rattle.gathering.specs.Stops.{Stop, stopsIn, positionOf, Within, GatheredFrom}
 use Rattle.gathering.specs.Stops.Laws.{seenAt, thenOn, then-lost, then-rest, walk-stops, record-part, Right, stops-right, within-none, within-take, gathered-within}
-use Rattle.listing.specs.Steps.{onward, here-first}
+use Rattle.points.specs.Steps.{onward, here-first}
 use Rattle.counting.specs.declared.Counted.{Counted}
 use Rattle.counting.specs.Count.{Past, countedAs, Counts}
 

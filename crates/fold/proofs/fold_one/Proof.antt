@@ -1,5 +1,5 @@
 -- `fold::fold_one` meets its contract: the fold of one run is the tray. Assumes nothing.
-use Rattle.fold.specs.Code.Answers.{answer-fits, answer-short, leaves-tray, leaves-same, one-run}
+use Rattle.fold.specs.Answers.{answer-fits, answer-short, leaves-tray, leaves-same, one-run}
 use Rattle.number.proofs.Known.{bytes-known}
 use Rattle.tray.specs.Meaning.{runsOf}
 use Rattle.number.specs.Big.{put}

@@ -1,5 +1,5 @@
 -- `fold::fold_runs` meets its contract: the length of the merge decides on 12, and the size of the folded tray on 7. Assumes nothing.
-use Rattle.fold.specs.Code.Answers.{answer-long, answer-fits, answer-short, leaves-tray, leaves-same, noted-folded}
+use Rattle.fold.specs.Answers.{answer-long, answer-fits, answer-short, leaves-tray, leaves-same, noted-folded}
 use Rattle.tray.specs.Meaning.{runsOf}
 use native.Mathlib.Omega.{arith}
 use borrow.Author.Needs.{needs}

@@ -13,8 +13,8 @@ use lib.Dec.{leb}
 use borrow.Author.Tests.{leb-true, leb-false, ltb-true, ltb-false, le-leb, lt-leb, lt-ltb, le-ltb}
 use Rattle.refusal.specs.declared.Refusal.the-variants.{TrayFrame, KeyOrder, RecordKind, IndexFrame, Segment, SegmentSize, Room, Bounds, PrefixEnd, Lost, Cursor, RunLength}
 use Rattle.theory.specs.Tests.{split, cases, clash, and-true, and-left, and-right}
-use Rattle.tray.specs.declared.check.TrayAnswer.{TrayAnswer}
-use Rattle.tray.specs.declared.check.TrayAnswer.the-variants.{Records}
+use Rattle.tray.specs.declared.TrayAnswer.{TrayAnswer}
+use Rattle.tray.specs.declared.TrayAnswer.the-variants.{Records}
 use Rattle.tray.specs.Frame.{runCount, recordsBefore, framed, Framed}
 use Rattle.tray.specs.Frame.Laws.{framed-fits, fits-framed}
 use Rattle.tray.specs.Check.{checkTray, Sound, Says, refused-1, refused-2, refused-3, records}

@@ -1,9 +1,9 @@
 -- `folding::keep_all` meets its contract. Invariant: what has been noted and the merge of what is left from the next key on are the merge from
 -- the start. Measure: the records left. Assumes nothing.
-use Rattle.folding.specs.Folding.Start.{merge-short}
-use Rattle.folding.specs.Folding.Keeping.{Merging, merging-none, merging-more, merging-less, merging-end, merging-low}
-use Rattle.folding.specs.Folding.Bound.{next-to, none-to, ended-more}
-use Rattle.folding.specs.Folding.{mergeLeft, leftTo, Ended}
+use Rattle.keeping.specs.Folding.Start.{merge-short}
+use Rattle.keeping.specs.Folding.Keeping.{Merging, merging-none, merging-more, merging-less, merging-end, merging-low}
+use Rattle.keeping.specs.Folding.Bound.{next-to, none-to, ended-more}
+use Rattle.keeping.specs.Folding.{mergeLeft, leftTo, Ended}
 use Rattle.heads.specs.Heads.Leads.{Heading}
 use Rattle.tray.specs.Frame.{runCount}
 use Rattle.tray.specs.Meaning.Back.{fits-runs}

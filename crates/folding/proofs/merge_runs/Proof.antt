@@ -1,6 +1,6 @@
 -- `folding::merge_runs` meets its contract: with the runs outside a to b at their ends, the merge of what is left is the merge of these runs.
 -- Assumes nothing.
-use Rattle.folding.specs.Folding.Moves.{padded-none, folding-reading, folding-merge, folding-ended, folding-noted}
+use Rattle.keeping.specs.Folding.Moves.{padded-none, folding-reading, folding-merge, folding-ended, folding-noted}
 use mathlib.Core.Path.{refl}
 use native.Mathlib.Omega.{arith}
 use borrow.Author.Needs.{needs}

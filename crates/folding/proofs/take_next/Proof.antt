@@ -1,5 +1,5 @@
 -- `folding::take_next` meets its contract: the record is noted before the run moves on. Assumes nothing.
-use Rattle.folding.specs.Folding.Keeping.{noted-at, stands-at}
+use Rattle.keeping.specs.Folding.Keeping.{noted-at, stands-at}
 use native.Mathlib.Omega.{arith}
 use borrow.Author.Needs.{needs}
 use Rattle.folding.proofs.take_next.Statement.{statement}

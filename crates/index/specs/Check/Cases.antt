@@ -9,8 +9,8 @@ use Rattle.tray.specs.Frame.{runCount, countOf, recordsBefore, startOf, runByte
 use Rattle.tray.specs.Run.{recordFrom, kindWrong, keyWrong, judgeFrom}
 use Rattle.tray.specs.Check.{afterRun, checkRuns, checkTray}
 use Rattle.tray.specs.Sample.{sample}
-use Rattle.index.specs.declared.check.IndexAnswer.{IndexAnswer}
-use Rattle.index.specs.declared.check.IndexAnswer.the-variants.{Segments, Refused}
+use Rattle.index.specs.declared.IndexAnswer.{IndexAnswer}
+use Rattle.index.specs.declared.IndexAnswer.the-variants.{Segments, Refused}
 use Rattle.index.specs.Layout.{sizeOf, segmentCount, headSize, segmentAt, indexFramed}
 use Rattle.index.specs.Scan.{marked, raise, begins, joins, offsetsHold, onlyPlaceholders, nextIn, hasNext, headsAbove, usedUp, names, closed, following, selectorsScan, segmentScan, scanFrom}
 use Rattle.index.specs.Check.{afterScan, judgeIndex, framedIndex, afterTray, checkIndex}

@@ -15,8 +15,8 @@ use lib.ListN.{length, getD, replicate}
 use Rattle.refusal.specs.declared.Refusal.{Refusal}
 use Rattle.refusal.specs.declared.Refusal.the-variants.{IndexFrame, Segment}
 use Rattle.theory.specs.Tests.{never}
-use Rattle.tray.specs.declared.check.TrayAnswer.{TrayAnswer}
-use Rattle.tray.specs.declared.check.TrayAnswer.the-variants.{Records, Refused as TrayRefused}
+use Rattle.tray.specs.declared.TrayAnswer.{TrayAnswer}
+use Rattle.tray.specs.declared.TrayAnswer.the-variants.{Records, Refused as TrayRefused}
 use Rattle.tray.specs.Frame.{runCount, countOf, Framing, Opened}
 use Rattle.tray.specs.Frame.Code.{opened}
 use Rattle.tray.specs.Frame.Laws.{fits-framed}
@@ -24,8 +24,8 @@ use Rattle.tray.specs.declared.frame.TrayFrame.{TrayFrame}
 use Rattle.tray.specs.Check.{checkTray}
 use Rattle.tray.specs.Check.Theorems.{answers-records}
 use Rattle.index.specs.declared.frame.IndexFrame.the-variants.{Fits, Wrong}
-use Rattle.index.specs.declared.check.IndexAnswer.{IndexAnswer}
-use Rattle.index.specs.declared.check.IndexAnswer.the-variants.{Segments, Refused}
+use Rattle.index.specs.declared.IndexAnswer.{IndexAnswer}
+use Rattle.index.specs.declared.IndexAnswer.the-variants.{Segments, Refused}
 use Rattle.index.specs.Layout.{sizeOf, segmentCount, segmentAt, indexFramed}
 use Rattle.index.specs.Layout.Code.{Laid, indexFrame}
 use Rattle.index.specs.Scan.{Outcome, wrong, right, Scanned, wrongAt, through, usedUp, segmentScan, scanFrom}

@@ -15,14 +15,14 @@ use lib.ListN.{take}
 use Rattle.refusal.specs.declared.Refusal.the-variants.{IndexFrame, Segment}
 use Rattle.theory.specs.Tests.{split, cases, clash}
 use Rattle.theory.specs.View.{view}
-use Rattle.tray.specs.declared.check.TrayAnswer.{TrayAnswer}
-use Rattle.tray.specs.declared.check.TrayAnswer.the-variants.{Records, Refused as TrayRefused}
+use Rattle.tray.specs.declared.TrayAnswer.{TrayAnswer}
+use Rattle.tray.specs.declared.TrayAnswer.the-variants.{Records, Refused as TrayRefused}
 use Rattle.tray.specs.Frame.{runCount, recordsBefore}
 use Rattle.tray.specs.Check.{checkTray, Sound}
 use Rattle.tray.specs.Check.Theorems.{answers-records}
 use Rattle.tray.specs.Meaning.{runsOf}
-use Rattle.index.specs.declared.check.IndexAnswer.{IndexAnswer}
-use Rattle.index.specs.declared.check.IndexAnswer.the-variants.{Segments, Refused}
+use Rattle.index.specs.declared.IndexAnswer.{IndexAnswer}
+use Rattle.index.specs.declared.IndexAnswer.the-variants.{Segments, Refused}
 use Rattle.index.specs.Layout.{sizeOf, segmentCount, segmentOf, segmentsOf, IndexFramed, indexFramed}
 use Rattle.index.specs.Layout
 use Rattle.index.specs.Layout.Laws.{index-fits, fits-index, take-listed, listed-some}

@@ -21,14 +21,14 @@ use Rattle.theory.specs.Tests.{never}
 use Rattle.theory.specs.View.{view}
 use Rattle.theory.specs.View.Entries.{at-run}
 use Rattle.theory.specs.View.Laws.{view-at}
-use Rattle.tray.specs.declared.check.TrayAnswer.{TrayAnswer}
-use Rattle.tray.specs.declared.check.TrayAnswer.the-variants.{Refused as TrayRefused}
+use Rattle.tray.specs.declared.TrayAnswer.{TrayAnswer}
+use Rattle.tray.specs.declared.TrayAnswer.the-variants.{Refused as TrayRefused}
 use Rattle.tray.specs.Frame.{runCount}
 use Rattle.tray.specs.Check.{checkTray, Sound, Says as TraySays, refused-1, refused-2, refused-3, records}
 use Rattle.tray.specs.Check.Laws.{check-says as tray-says}
 use Rattle.tray.specs.Meaning.{runsOf}
-use Rattle.index.specs.declared.check.IndexAnswer.{IndexAnswer}
-use Rattle.index.specs.declared.check.IndexAnswer.the-variants.{Segments, Refused}
+use Rattle.index.specs.declared.IndexAnswer.{IndexAnswer}
+use Rattle.index.specs.declared.IndexAnswer.the-variants.{Segments, Refused}
 use Rattle.index.specs.Layout.{segmentCount, segmentsOf, IndexFramed}
 use Rattle.index.specs.Layout
 use Rattle.index.specs.Rules.{placeholder, keyOf, Item, selectorOf, Right, Follows, here, next, Accepted, FirstWrong, LeftOver}

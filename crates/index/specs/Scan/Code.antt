@@ -13,7 +13,7 @@ use lib.Dec.{eqb, ltb}
 use borrow.Author.Tests.{eq-eqb, ne-eqb}
 use Rattle.theory.specs.Records.{Record}
 use Rattle.tray.specs.Frame.{runCount, countOf, Starts}
-use Rattle.index.specs.declared.select.Head.{Head}
+use Rattle.index.specs.declared.Head.{Head}
 use Rattle.index.specs.Layout.{offsetFrom}
 use Rattle.index.specs.Scan.{Trail, lost, kept, Outcome, wrong, right, runIn, nextIn, hasNext, names, raise, begins, joins, headsAbove, offsetsHold, onlyPlaceholders}
 

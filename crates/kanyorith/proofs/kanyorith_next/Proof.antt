@@ -1,8 +1,8 @@
 -- `kanyorith::kanyorith_next` meets its promise: what `hand_over` promises, of the call's own answer. Assumes nothing.
 use mathlib.Core.Path.{subst, ap, _∙_}
-use Rattle.next.specs.Answers.{nextAnswer}
+use Rattle.answers.specs.Next.{nextAnswer}
 use Rattle.kanyorith.specs.Code.Narrow.{sought-narrow}
-use Rattle.kanyorith.specs.Cursors.{cursorIn}
+use Rattle.verdicts.specs.Cursors.{cursorIn}
 use Rattle.kanyorith.specs.Promises.{Sought}
 use borrow.Author.Needs.{needs}
 use Rattle.kanyorith.proofs.kanyorith_next.Statement.{statement}

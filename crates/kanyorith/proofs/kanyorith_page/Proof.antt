@@ -1,10 +1,10 @@
 -- `kanyorith::kanyorith_page` meets its promise: a way out for each answer. Assumes nothing.
 use mathlib.Core.Path.{subst, ap, _∙_}
-use Rattle.listing.specs.Answers.{pageAnswer, pageLeaves}
+use Rattle.answers.specs.Page.{pageAnswer, pageLeaves}
 use Rattle.kanyorith.specs.Code.Narrow.{page-narrow}
 use Rattle.kanyorith.specs.Code.{page-more, page-end, page-refused}
-use Rattle.kanyorith.specs.Cursors.Laws.{narrowCursor}
-use Rattle.kanyorith.specs.Cursors.{cursorIn}
+use Rattle.verdicts.specs.Cursors.Laws.{narrowCursor}
+use Rattle.verdicts.specs.Cursors.{cursorIn}
 use Rattle.kanyorith.specs.Promises.{Paging}
 use borrow.Author.Needs.{needs}
 use Rattle.kanyorith.proofs.kanyorith_page.Statement.{statement}

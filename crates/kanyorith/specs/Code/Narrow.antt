@@ -22,11 +22,11 @@ use Rattle.walk.specs.Walk.{Spot}
 use Rattle.walk.specs.Reads.{belongs}
 use Rattle.walk.specs.Code.{spotOf}
 use Rattle.walk.specs.Answers.{inFrames}
-use Rattle.next.specs.Answers.{refusedNext, nextFramed, nextAnswer}
-use Rattle.listing.specs.Answers.{refusedPage, pageFramed, leftFramed, pageAnswer, pageLeaves}
+use Rattle.answers.specs.Next.{refusedNext, nextFramed, nextAnswer}
+use Rattle.answers.specs.Page.{refusedPage, pageFramed, leftFramed, pageAnswer, pageLeaves}
 use Rattle.kanyorith.specs.Promises.{cursorLeft, Sought, pageCursorLeft, Paging}
-use Rattle.kanyorith.specs.Wide.{narrowed-same, narrow-high}
-use Rattle.kanyorith.specs.Cursors.Laws.{narrowCursor}
+use Rattle.verdicts.specs.Wide.{narrowed-same, narrow-high}
+use Rattle.verdicts.specs.Cursors.Laws.{narrowCursor}
 
 -- why a cursor at segment g that does not belong is refused
 unfoldable pub refusalAt : List ℕ → List ℕ → ℕ → Refusal

@@ -2,7 +2,7 @@
 use lib.Seq.{length-take-le}
 use lib.ListN.{take}
 use mathlib.Core.Path.{sym}
-use Rattle.lines.specs.Line.Turns.{answered-tray, answered-build, answered-read, answered-bad, heard-2-wrong}
+use Rattle.turns.specs.Turns.{answered-tray, answered-build, answered-read, answered-bad, heard-2-wrong}
 use native.Mathlib.Omega.{arith}
 use borrow.Author.Needs.{needs}
 use Rattle.lines.proofs.answer_frame.Statement.{statement}

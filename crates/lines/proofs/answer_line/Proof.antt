@@ -1,7 +1,7 @@
 -- `lines::answer_line` meets its contract: a well formed line is heard as its frame, any other is ignored. Assumes nothing.
 use lib.ListN.{take}
 use mathlib.Core.Path.{sym, _∙_}
-use Rattle.lines.specs.Line.Turns.{formed-known, answered-line, answered-bad, turn-ignored, decoded}
+use Rattle.turns.specs.Turns.{formed-known, answered-line, answered-bad, turn-ignored, decoded}
 use native.Mathlib.Omega.{arith}
 use borrow.Author.Needs.{needs}
 use Rattle.lines.proofs.answer_line.Statement.{statement}

@@ -1,5 +1,5 @@
 -- `lines::answer_read` meets its contract: a way out for each kind. Assumes nothing.
-use Rattle.lines.specs.Line.Turns.{read-get, read-wrong, read-list, read-unknown}
+use Rattle.turns.specs.Turns.{read-get, read-wrong, read-list, read-unknown}
 use borrow.Author.Needs.{needs}
 use Rattle.lines.proofs.answer_read.Statement.{statement}
 use Rattle.lines.proofs.answer_read.Tie as tie

@@ -1,6 +1,6 @@
 -- `lines::formed` meets its contract: a way out for each part of the test. Assumes nothing.
 use mathlib.Core.Path.{_∙_}
-use Rattle.lines.specs.Line.Turns.{formed-empty, formed-rest, formed-long, formed-odd}
+use Rattle.turns.specs.Turns.{formed-empty, formed-rest, formed-long, formed-odd}
 use borrow.Author.Needs.{needs}
 use Rattle.lines.proofs.formed.Statement.{statement}
 use Rattle.lines.proofs.formed.Tie as tie

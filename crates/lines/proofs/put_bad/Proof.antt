@@ -1,5 +1,5 @@
 -- `lines::put_bad` meets its contract: a head is all of a bad line's answer. Assumes nothing.
-use Rattle.lines.specs.Line.Code.{bad-line}
+use Rattle.turns.specs.Line.Code.{bad-line}
 use borrow.Author.Needs.{needs}
 use Rattle.lines.proofs.put_bad.Statement.{statement}
 use Rattle.lines.proofs.put_bad.Tie as tie

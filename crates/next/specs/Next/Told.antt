@@ -15,15 +15,15 @@ use Rattle.tray.specs.declared.Place.{Place}
 use Rattle.tray.specs.Frame.{runCount, countOf}
 use Rattle.index.specs.Layout.{segmentCount}
 use Rattle.walk.specs.declared.cursor.Cursor.{Cursor}
-use Rattle.walk.specs.declared.calls.Seeks.{Seeks}
-use Rattle.walk.specs.declared.calls.SeekAnswer.the-variants.{Found as FoundAt, End}
+use Rattle.walk.specs.declared.Seeks.{Seeks}
+use Rattle.walk.specs.declared.SeekAnswer.the-variants.{Found as FoundAt, End}
 use Rattle.walk.specs.Walk.{Spot, Walked, stayed, ended, lost, selectorAt, named, walkFrom}
 use Rattle.walk.specs.Reads.{Found, endSpot, foundBy}
 use Rattle.walk.specs.Code.{placed, numbers, getD-numbers, raise-numbers, spotOf, selectors-pass, selectors-lost, selectors-stay, selectors-go}
 use Rattle.walk.specs.Code.Turns.{Here, here-from, here-into, named-run, named-yes, named-past, count-is}
-use Rattle.walk.specs.Answers.{cursorOf}
+use Rattle.walk.specs.Answers.{cursorOf, endAt}
 use Rattle.walk.specs.Answers.Code.{cursor-back}
-use Rattle.next.specs.Answers.{refusedNext, nextTold, endAt, foundNext}
+use Rattle.answers.specs.Next.{refusedNext, nextTold, foundNext}
 use Rattle.next.specs.Next.{Going, walks, passedBy, passed-within, passed-room, visibleVisit, visible-go, visible-stay}
 
 -- the walk starts at the moved cursor

@@ -1,6 +1,6 @@
 -- `reading::answer` meets its contract: the answer line stands behind what the output held. Assumes nothing.
 use Prim.Native.Nat.{_+_, _-_}
-use Rattle.reading.specs.Feed.Code.{answered-rooms, answered-line}
+use Rattle.turns.specs.Feed.Code.{answered-rooms, answered-line}
 use native.Mathlib.Omega.{arith}
 use borrow.Author.Needs.{needs}
 use Rattle.reading.proofs.answer.Statement.{statement}

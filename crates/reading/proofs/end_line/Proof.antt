@@ -1,7 +1,7 @@
 -- `reading::end_line` meets its contract: the line is the part alone, or what was gathered and the part. Assumes nothing.
 use lib.Seq.{length-take-le}
 use mathlib.Core.Path.{sym}
-use Rattle.reading.specs.Feed.Code.{ends-whole, ends-gathered}
+use Rattle.turns.specs.Feed.Code.{ends-whole, ends-gathered}
 use native.Mathlib.Omega.{arith}
 use borrow.Author.Needs.{needs}
 use Rattle.reading.proofs.end_line.Statement.{statement}

@@ -1,7 +1,7 @@
 -- `reading::finish` meets its contract: where nothing is gathered no line is left. Assumes nothing.
 use lib.Seq.{length-take-le}
 use mathlib.Core.Path.{sym}
-use Rattle.reading.specs.Feed.Code.{finishes-none, finishes-line}
+use Rattle.turns.specs.Feed.Code.{finishes-none, finishes-line}
 use native.Mathlib.Omega.{arith}
 use borrow.Author.Needs.{needs}
 use Rattle.reading.proofs.finish.Statement.{statement}

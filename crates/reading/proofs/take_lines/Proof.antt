@@ -3,7 +3,7 @@
 use mathlib.Core.Path.{sym, _∙_}
 use Prim.Native.Nat.{_-_}
 use lib.ListN.{length}
-use Rattle.reading.specs.Feed.Code.{Taking, taking-none, taking-more, takes-rest, takes-full, rest-rooms}
+use Rattle.turns.specs.Feed.Code.{Taking, taking-none, taking-more, takes-rest, takes-full, rest-rooms}
 use native.Mathlib.Omega.{arith}
 use Rattle.reading.proofs.take_lines.Statement.{statement}
 use Rattle.reading.proofs.take_lines.Tie as tie

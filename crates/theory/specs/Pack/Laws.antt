@@ -9,9 +9,7 @@
 --     pack-bound     half of the segments rounded down, times d + 1, is at most the members
 --     pack-most      how many segments there are at most
 use mathlib.Core.Path.{_≡_, refl, ap, _∙_}
-use mathlib.Core.List.{List, [], _∷_, _++_, map, append-nil, append-assoc, Memᴰ·append-right}
-use mathlib.Core.List.{IsChain, IsChain·nil, IsChain·singleton, IsChain·cons-cons, IsChain·cons-of-imp, IsChain·imp}
-use mathlib.Core.List.{rel-of-isChain-cons-cons, isChain-of-isChain-cons}
+use mathlib.Core.List.{List, [], _∷_, _++_, map, append-nil, append-assoc, Memᴰ·append-right, IsChain, IsChain·nil, IsChain·singleton, IsChain·cons-cons, IsChain·cons-of-imp, IsChain·imp, rel-of-isChain-cons-cons, isChain-of-isChain-cons}
 use Prim.Native.Nat.{ℕ, suc, _+_, _*_, _/_, _≤_, _<_, zero-le}
 use native.Mathlib.Nat.{zero-mul, suc-mul, le-div-iff-mul-le}
 use native.Mathlib.Omega.{arith}

@@ -6,8 +6,8 @@ use mathlib.Core.List.{List, [], _∷_, _++_}
 use lib.ListN.{take, drop, set, replicate}
 use Rattle.number.specs.Big.{be}
 use Rattle.refusal.specs.declared.Refusal.the-variants.{TrayFrame, KeyOrder, RecordKind}
-use Rattle.tray.specs.declared.check.TrayAnswer.{TrayAnswer}
-use Rattle.tray.specs.declared.check.TrayAnswer.the-variants.{Records, Refused}
+use Rattle.tray.specs.declared.TrayAnswer.{TrayAnswer}
+use Rattle.tray.specs.declared.TrayAnswer.the-variants.{Records, Refused}
 use Rattle.tray.specs.Frame.{runCount, countOf, recordsBefore, startOf, runBytes, headerFits, countsFit, framed}
 use Rattle.tray.specs.Run.{recordFrom, kindWrong, keyWrong, judgeFrom}
 use Rattle.tray.specs.Check.{afterRun, checkRuns, checkTray}

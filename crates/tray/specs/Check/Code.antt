@@ -11,10 +11,10 @@ use native.Mathlib.Nat.{sub-zero}
 use mathlib.Core.Bool.{true, false}
 use mathlib.Core.List.{List}
 use Rattle.refusal.specs.declared.Refusal.the-variants.{TrayFrame, KeyOrder, RecordKind}
-use Rattle.tray.specs.declared.run.RunAnswer.{RunAnswer}
-use Rattle.tray.specs.declared.run.RunAnswer.the-variants.{Right, WrongKind, WrongKey}
-use Rattle.tray.specs.declared.check.TrayAnswer.{TrayAnswer}
-use Rattle.tray.specs.declared.check.TrayAnswer.the-variants.{Records, Refused}
+use Rattle.tray.specs.declared.RunAnswer.{RunAnswer}
+use Rattle.tray.specs.declared.RunAnswer.the-variants.{Right, WrongKind, WrongKey}
+use Rattle.tray.specs.declared.TrayAnswer.{TrayAnswer}
+use Rattle.tray.specs.declared.TrayAnswer.the-variants.{Records, Refused}
 use Rattle.tray.specs.Frame.{runCount, countOf, recordsBefore, runBytes, framed}
 use Rattle.tray.specs.Frame.Laws.{recordsBefore-next, recordsBefore-zero}
 use Rattle.tray.specs.Run.{judgeRun}

@@ -6,8 +6,8 @@ use Rattle.theory.specs.Tests.{never}
 use mathlib.Core.Bool.{true, false}
 use mathlib.Core.List.{List}
 use Rattle.refusal.specs.declared.Refusal.the-variants.{TrayFrame, KeyOrder, RecordKind}
-use Rattle.tray.specs.declared.check.TrayAnswer.{TrayAnswer}
-use Rattle.tray.specs.declared.check.TrayAnswer.the-variants.{Records, Refused}
+use Rattle.tray.specs.declared.TrayAnswer.{TrayAnswer}
+use Rattle.tray.specs.declared.TrayAnswer.the-variants.{Records, Refused}
 use Rattle.tray.specs.Frame.{runCount, recordsBefore, runBytes, Framed}
 use Rattle.tray.specs.Run.{recordAt, kindWrong, keyWrong}
 use Rattle.tray.specs.Check.{checkTray, Sound, Numbered, RightBefore, Says, refused-1, refused-2, refused-3, records}

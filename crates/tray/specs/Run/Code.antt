@@ -18,7 +18,7 @@ use Rattle.number.specs.Big.{be, bytesOf, put}
 use Rattle.number.specs.Big.Laws.{be-add, bytesOf-add, length-bytesOf}
 use Rattle.number.specs.Big.Writes.{put-put}
 use Rattle.theory.specs.Tests.{cases, clash, or-left, or-right}
-use Rattle.tray.specs.declared.run.RunAnswer.the-variants.{WrongKind, WrongKey}
+use Rattle.tray.specs.declared.RunAnswer.the-variants.{WrongKind, WrongKey}
 use Rattle.tray.specs.Run.{recordFrom, recordAt, kindWrong, keyWrong, place, judgeFrom}
 use Rattle.tray.specs.Run.Laws.{judge-kind, judge-key, judge-next}
 

@@ -16,8 +16,8 @@ use lib.Dec.{ltb, eqb}
 use borrow.Author.Tests.{leb-false, lt-leb, ltb-false, le-ltb, eqb-true, eq-eqb}
 use Rattle.theory.specs.Tests.{clash, or-left, or-right}
 use Rattle.theory.specs.Records.{Record, SoundRecord}
-use Rattle.tray.specs.declared.run.RunAnswer.{RunAnswer}
-use Rattle.tray.specs.declared.run.RunAnswer.the-variants.{Right, WrongKind, WrongKey}
+use Rattle.tray.specs.declared.RunAnswer.{RunAnswer}
+use Rattle.tray.specs.declared.RunAnswer.the-variants.{Right, WrongKind, WrongKey}
 use Rattle.tray.specs.Run.{recordAt, kindWrong, keyWrong, place, judgeFrom}
 
 -- one record more to judge

@@ -21,8 +21,8 @@ use Rattle.walk.specs.declared.cursor.Cursor.{Cursor}
 use Rattle.walk.specs.declared.cursor.Sight.{Sight}
 use Rattle.walk.specs.declared.cursor.Sight.the-variants.{Found as SightFound, End as SightEnd, Lost as SightLost}
 use Rattle.walk.specs.declared.cursor.Sought.{Sought}
-use Rattle.walk.specs.declared.calls.Seeks.{Seeks}
-use Rattle.walk.specs.declared.calls.SeekAnswer.the-variants.{Found, End}
+use Rattle.walk.specs.declared.Seeks.{Seeks}
+use Rattle.walk.specs.declared.SeekAnswer.the-variants.{Found, End}
 use Rattle.walk.specs.Start.{start}
 use Rattle.walk.specs.Walk.{walkSegments}
 use Rattle.walk.specs.Reads.{seek, seekVisit, endSpot}

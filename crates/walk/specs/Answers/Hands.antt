@@ -20,8 +20,8 @@ use Rattle.tray.specs.Frame.{runCount, framed, Framed}
 use Rattle.tray.specs.Frame.Laws.{framed-fits}
 use Rattle.index.specs.Layout.{segmentCount, indexFramed}
 use Rattle.walk.specs.declared.cursor.Cursor.{Cursor}
-use Rattle.walk.specs.declared.calls.Seeks.{Seeks}
-use Rattle.walk.specs.declared.calls.SeekAnswer.the-variants.{Refused}
+use Rattle.walk.specs.declared.Seeks.{Seeks}
+use Rattle.walk.specs.declared.SeekAnswer.the-variants.{Refused}
 use Rattle.walk.specs.Start.{start}
 use Rattle.walk.specs.Start.Laws.{start-le}
 use Rattle.walk.specs.Walk.{Spot, Visit, stay, go, Walked, stayed, ended, lost}

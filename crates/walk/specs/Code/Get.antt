@@ -24,8 +24,8 @@ use Rattle.index.specs.Scan.{runIn}
 use Rattle.walk.specs.declared.cursor.Sight.{Sight}
 use Rattle.walk.specs.declared.cursor.Sight.the-variants.{Found as SightFound, End as SightEnd, Lost as SightLost}
 use Rattle.walk.specs.declared.cursor.Sought.{Sought}
-use Rattle.walk.specs.declared.get.Gets.{Gets}
-use Rattle.walk.specs.declared.get.GetAnswer.the-variants.{Found as GetFound, Absent}
+use Rattle.walk.specs.declared.Gets.{Gets}
+use Rattle.walk.specs.declared.GetAnswer.the-variants.{Found as GetFound, Absent}
 use Rattle.walk.specs.Start.{start}
 use Rattle.walk.specs.Walk.{Spot, Visit, stay, go, Walked, stayed, named, walkSegments}
 use Rattle.walk.specs.Reads.{Found, unmarked, recordBy, foundBy, seekVisit, seek, value, absent, gotFrom, get}

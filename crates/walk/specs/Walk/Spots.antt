@@ -20,7 +20,7 @@ use Rattle.tray.specs.Check.{Sound}
 use Rattle.tray.specs.Meaning.{runsOf}
 use Rattle.index.specs.Layout.{segmentCount, segmentOf, segmentsOf, IndexFramed}
 use Rattle.index.specs.Rules.{keyOf, Item, spelled, Accepted}
-use Rattle.index.specs.declared.check.IndexAnswer.the-variants.{Segments}
+use Rattle.index.specs.declared.IndexAnswer.the-variants.{Segments}
 use Rattle.index.specs.Check.{checkIndex}
 use Rattle.index.specs.Check.Theorems.{answers-segments}
 use Rattle.index.specs.Scan.Places.{placesOf}

@@ -22,7 +22,7 @@ use Rattle.tray.specs.Frame.{runCount, countOf, startOf, runBytes}
 use Rattle.tray.specs.Frame.Laws.{upto}
 use Rattle.index.specs.Scan.{raise}
 use Rattle.index.specs.Scan.Code.{Reading}
-use Rattle.heads.specs.declared.lead.Lead.{Lead}
+use Rattle.heads.specs.declared.Lead.{Lead}
 use Rattle.heads.specs.Heads.{highest, keyOr, nextKey, Padded}
 use Rattle.heads.specs.Heads.Leads.{First, Half, Topped, Kept, Leading, Nexts, Heading, FirstLeft, left}
 

@@ -13,7 +13,7 @@ use lib.Dec.{eqb, ltb, leb}
 use borrow.Author.Tests.{eq-eqb, ne-eqb, le-ltb, lt-ltb, ltb-true, ltb-false, le-leb, lt-leb, eqb-true, eqb-false}
 use Rattle.theory.specs.Records.{Record}
 use Rattle.theory.specs.Tests.{cases}
-use Rattle.index.specs.declared.select.Head.{Head}
+use Rattle.index.specs.declared.Head.{Head}
 use Rattle.index.specs.Scan.{marked, begins, joins}
 use Rattle.index.specs.Scan.Code.{HeadOf, headed}
 

@@ -14,7 +14,7 @@ use lib.Dec.{ltb}
 use borrow.Author.Tests.{lt-ltb, le-ltb, eq-eqb, ne-eqb}
 use Rattle.tray.specs.Frame.{runCount, countOf, runBytes}
 use Rattle.tray.specs.Run.{recordAt}
-use Rattle.index.specs.declared.select.Head.{Head}
+use Rattle.index.specs.declared.Head.{Head}
 use Rattle.index.specs.Scan.{lost, kept, nextIn, hasNext, names, raise, begins, joins}
 use Rattle.index.specs.Scan.Code.{Reading, HeadOf, headed, aboveIn, stepOf, beginOf}
 use Rattle.index.specs.Scan.Code.Select.{begins-head, joins-head}

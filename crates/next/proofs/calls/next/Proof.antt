@@ -2,7 +2,7 @@
 use mathlib.Core.Path.{sym, _∙_}
 use Rattle.tray.specs.Frame.Code.{opened}
 use Rattle.index.specs.Layout.Code.{laid}
-use Rattle.next.specs.Answers.{refusedNext, nextAnswer}
+use Rattle.answers.specs.Next.{refusedNext, nextAnswer}
 use Rattle.walk.specs.Answers.Code.{frames-tray, frames-index, frames-fit}
 use borrow.Author.Needs.{needs}
 use Rattle.next.proofs.calls.next.Statement.{statement}

@@ -1,7 +1,7 @@
 -- `next::next::next_from` meets its contract. Assumes nothing.
 use Rattle.next.specs.Next.Told.{told-lost}
 use Rattle.next.specs.Next.{walks, may-named, may-run, may-place, next-passed, next-lost}
-use Rattle.next.specs.Answers.{nextTold}
+use Rattle.answers.specs.Next.{nextTold}
 use Rattle.walk.specs.Code.Turns.{within, selector-is}
 use Rattle.walk.specs.Walk.{lost}
 use lib.ListN.{length-map}

@@ -1,0 +1,7 @@
+-- What the calls that list answer for every input.
+-- next
+pub mod Next
+-- page, and what it leaves in the output
+pub mod Page
+-- sheet, and what it leaves in the output
+pub mod Sheet

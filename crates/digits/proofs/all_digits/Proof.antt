@@ -1,0 +1,54 @@
+-- `digits::all_digits` meets its contract. Invariant: the characters from place i on have still to be counted. Measure: these characters.
+-- Assumes nothing.
+use Prim.Native.Nat.{_-_}
+use lib.ListN.{length, getD}
+use Rattle.digits.specs.Hex.Code.{Counting, counting-none, counting-more, counting-end, fault-low}
+use native.Mathlib.Omega.{arith}
+use borrow.Author.Needs.{needs}
+use Rattle.digits.proofs.all_digits.Statement.{statement}
+use Rattle.digits.proofs.all_digits.Tie as tie
+
+abbrev Inv-loop : tie.InvT-loop
+Inv-loop line n faults₀ i₀ faults i = Counting line faults i
+
+abbrev μ-loop : tie.MeasureT-loop
+μ-loop line n faults₀ i₀ faults i = length line - i
+
+loop-holds : tie.Need-loop-holds Inv-loop μ-loop
+loop-holds c = counting-none _
+
+shared-slice-read-fault : tie.Need-shared-slice-read-fault Inv-loop μ-loop
+shared-slice-read-fault c = search needs
+
+fault-requires : tie.Need-fault-requires Inv-loop μ-loop
+fault-requires c κs = search needs
+
+add-faults : tie.Need-add-faults Inv-loop μ-loop
+add-faults c = omega (arith, c .before .before .before .loop .inv .few, c .fault .ensures, fault-low (getD (c .before .before .before .before .before .args .line .now) (c .before .before .before .loop .i) 0), c .before .before .before .before .before .pre)
+
+add-i : tie.Need-add-i Inv-loop μ-loop
+add-i c = omega arith
+
+loop-less : tie.Need-loop-less Inv-loop μ-loop
+loop-less c = omega arith
+
+loop-again : tie.Need-loop-again Inv-loop μ-loop
+loop-again c = counting-more (c .before .before .before .loop .inv) (omega arith) (c .fault .ensures)
+
+returns : tie.Need-returns Inv-loop μ-loop
+returns c = counting-end (c .before .loop .inv) (omega arith)
+
+pub all-digits-spec : {M : Type 1} → statement M
+all-digits-spec =
+    tie.close
+    (tie.spec
+    Inv-loop
+    μ-loop
+    loop-holds
+    shared-slice-read-fault
+    fault-requires
+    add-faults
+    add-i
+    loop-less
+    loop-again
+    returns)

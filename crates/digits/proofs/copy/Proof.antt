@@ -1,0 +1,55 @@
+-- `digits::copy` meets its contract. Invariant: the bytes from place i on have still to be written. Measure: these bytes. Assumes nothing.
+use Rattle.number.specs.Big.{put}
+use mathlib.Core.Path.{refl, ap, _∙_}
+use Prim.Native.Nat.{_-_}
+use lib.ListN.{length, getD}
+use Rattle.digits.specs.Hex.Code.{Filling, filling-none, filling-more, filling-end, listed-list}
+use native.Mathlib.Omega.{arith}
+use borrow.Author.Needs.{needs}
+use Rattle.digits.proofs.copy.Statement.{statement}
+use Rattle.digits.proofs.copy.Tie as tie
+
+abbrev Inv-loop : tie.InvT-loop
+Inv-loop bytes to₀ n i₀ to i = Filling (λ j. getD bytes j 0) (length bytes) to₀ to i
+
+abbrev μ-loop : tie.MeasureT-loop
+μ-loop bytes to₀ n i₀ to i = length bytes - i
+
+loop-holds : tie.Need-loop-holds Inv-loop μ-loop
+loop-holds c = filling-none _ _ _
+
+shared-slice-read-to : tie.Need-shared-slice-read-to Inv-loop μ-loop
+shared-slice-read-to c = search needs
+
+slice-write-to : tie.Need-slice-write-to Inv-loop μ-loop
+slice-write-to c = omega (arith, c .before .before .loop .inv .room, c .before .before .before .pre)
+
+add-i : tie.Need-add-i Inv-loop μ-loop
+add-i c = omega arith
+
+loop-less : tie.Need-loop-less Inv-loop μ-loop
+loop-less c = omega arith
+
+loop-again : tie.Need-loop-again Inv-loop μ-loop
+loop-again c = filling-more (c .before .before .loop .inv) (omega arith) (omega (arith, c .before .before .loop .inv .room, c .before .before .before .pre)) refl
+
+same-length : tie.Need-same-length Inv-loop μ-loop
+same-length c = c .before .loop .inv .room
+
+returns : tie.Need-returns Inv-loop μ-loop
+returns c = filling-end (c .before .loop .inv) (omega arith) ∙ ap (put _ 0) (listed-list _)
+
+pub copy-spec : {M : Type 1} → statement M
+copy-spec =
+    tie.close
+    (tie.spec
+    Inv-loop
+    μ-loop
+    loop-holds
+    shared-slice-read-to
+    slice-write-to
+    add-i
+    loop-less
+    loop-again
+    same-length
+    returns)

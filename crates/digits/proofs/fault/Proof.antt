@@ -1,0 +1,22 @@
+-- `digits::fault` meets its contract: the ways out part the characters at 0, 9, a and f. Assumes nothing.
+use Rattle.digits.specs.Hex.Code.{fault-before, fault-figure, fault-between, fault-letter, fault-behind}
+use Rattle.digits.proofs.fault.Statement.{statement}
+use Rattle.digits.proofs.fault.Tie as tie
+
+returns : tie.Need-returns
+returns c = fault-before _ (c .if1 .taken)
+
+returns-2 : tie.Need-returns-2
+returns-2 c = fault-figure _ (c .before .if1 .left) (c .if2 .taken)
+
+returns-3 : tie.Need-returns-3
+returns-3 c = fault-between _ (c .before .if2 .left) (c .if3 .taken)
+
+returns-4 : tie.Need-returns-4
+returns-4 c = fault-letter _ (c .before .if3 .left) (c .if4 .taken)
+
+returns-5 : tie.Need-returns-5
+returns-5 c = fault-behind _ (c .if4 .left)
+
+pub fault-spec : {M : Type 1} → statement M
+fault-spec = tie.close (tie.spec returns returns-2 returns-3 returns-4 returns-5)

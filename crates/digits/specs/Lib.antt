@@ -1,0 +1,3 @@
+-- Lower-case hexadecimal.
+-- digits and bytes
+pub mod Hex

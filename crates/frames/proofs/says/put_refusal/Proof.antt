@@ -1,0 +1,20 @@
+-- `frames::says::put_refusal` meets its contract: the head with number and figure of the refusal. Assumes nothing.
+use Rattle.turns.specs.Line.Code.{line-refusal}
+use borrow.Author.Needs.{needs}
+use Rattle.frames.proofs.says.put_refusal.Statement.{statement}
+use Rattle.frames.proofs.says.put_refusal.Tie as tie
+
+verdict-of-requires : tie.Need-verdict-of-requires
+verdict-of-requires c κs = search needs
+
+put-short-requires : tie.Need-put-short-requires
+put-short-requires c κs = search needs
+
+same-length : tie.Need-same-length
+same-length c = search needs
+
+returns : tie.Need-returns
+returns c = line-refusal (c .before .before .before .before .before .before .args .code) (c .before .before .before .before .before .before .args .r) (c .before .before .before .before .verdict-of .ensures) (c .before .before .put-short .ensures)
+
+pub put-refusal-spec : {M : Type 1} → statement M
+put-refusal-spec = tie.close (tie.spec verdict-of-requires put-short-requires same-length returns)

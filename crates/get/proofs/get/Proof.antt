@@ -1,0 +1,61 @@
+-- `get::get` meets its contract. Assumes nothing.
+use mathlib.Core.Path.{sym, ap, _∙_}
+use Rattle.tray.specs.Frame.Code.{opened}
+use Rattle.index.specs.Layout.Code.{laid}
+use Rattle.walk.specs.Answers.{refusedGet, getAnswer, getFramed}
+use Rattle.walk.specs.Answers.Code.{frames-tray, frames-index, frames-fit}
+use borrow.Author.Needs.{needs}
+use Rattle.get.proofs.get.Statement.{statement}
+use Rattle.get.proofs.get.Tie as tie
+
+tray-frame-requires : tie.Need-tray-frame-requires
+tray-frame-requires c κs = search needs
+
+index-frame-requires : tie.Need-index-frame-requires
+index-frame-requires c κs = search needs
+
+enum-known-d : tie.Need-enum-known-d
+enum-known-d c = search needs
+
+big8-requires : tie.Need-big8-requires
+big8-requires c κs = search needs
+
+get-framed-requires : tie.Need-get-framed-requires
+get-framed-requires c κs = (opened _ (c .before .before .before .before .before .before .before .tray-frame .ensures) (c .before .before .before .before .before .before .if1 .taken), laid _ _ (opened _ (c .before .before .before .before .before .before .before .tray-frame .ensures) (c .before .before .before .before .before .before .if1 .taken) .runs) (sym (c .before .before .before .d .given .1) ∙ c .before .before .before .before .before .index-frame .ensures))
+
+returns : tie.Need-returns
+unfolding getAnswer
+returns c = frames-fit refusedGet _ (c .before .before .before .before .before .before .before .before .tray-frame .ensures) (c .before .before .before .before .before .before .before .if1 .taken) _ (sym (c .before .before .before .before .d .given .1) ∙ c .before .before .before .before .before .before .index-frame .ensures) (c .get-framed .ensures ∙ ap (getFramed _ _) (c .before .big8 .ensures))
+
+enum-told : tie.Need-enum-told
+enum-told c = search needs
+
+no-value-requires : tie.Need-no-value-requires
+no-value-requires c κs = search needs
+
+returns-2 : tie.Need-returns-2
+unfolding getAnswer
+returns-2 c = frames-index refusedGet _ (c .before .before .before .before .before .tray-frame .ensures) (c .before .before .before .before .if1 .taken) _ (sym (c .before .enum-told .given .1) ∙ c .before .before .before .index-frame .ensures) (c .no-value .ensures)
+
+no-value-requires-2 : tie.Need-no-value-requires-2
+no-value-requires-2 c κs = search needs
+
+returns-3 : tie.Need-returns-3
+unfolding getAnswer
+returns-3 c = frames-tray refusedGet _ (c .before .before .tray-frame .ensures) _ (c .before .if1 .left) (c .no-value2 .ensures)
+
+pub get-spec : {M : Type 1} → statement M
+get-spec =
+    tie.close
+    (tie.spec
+    tray-frame-requires
+    index-frame-requires
+    enum-known-d
+    big8-requires
+    get-framed-requires
+    returns
+    enum-told
+    no-value-requires
+    returns-2
+    no-value-requires-2
+    returns-3)

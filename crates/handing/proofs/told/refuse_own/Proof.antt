@@ -1,0 +1,21 @@
+-- `handing::told::refuse_own` meets its contract: the number decides whose figure it is. Assumes nothing.
+use Rattle.verdicts.specs.Wide.{owned, own-there, own-else}
+use mathlib.Core.Path.{ap, _∙_}
+use borrow.Author.Needs.{needs}
+use Rattle.handing.proofs.told.refuse_own.Statement.{statement}
+use Rattle.handing.proofs.told.refuse_own.Tie as tie
+
+verdict-of-requires : tie.Need-verdict-of-requires
+verdict-of-requires c κs = search needs
+
+returns : tie.Need-returns
+returns c = own-there (c .before .before .verdict-of .result) (c .before .before .before .args .own) (c .if1 .taken) ∙ ap (owned (c .before .before .before .args .at) (c .before .before .before .args .own)) (c .before .before .verdict-of .ensures)
+
+cast-result : tie.Need-cast-result
+cast-result c = search needs
+
+returns-2 : tie.Need-returns-2
+returns-2 c = own-else (c .before .before .before .verdict-of .result) (c .before .before .before .before .args .at) (c .before .before .before .before .args .own) (c .before .if1 .left) ∙ ap (owned (c .before .before .before .before .args .at) (c .before .before .before .before .args .own)) (c .before .before .before .verdict-of .ensures)
+
+pub refuse-own-spec : {M : Type 1} → statement M
+refuse-own-spec = tie.close (tie.spec verdict-of-requires returns cast-result returns-2)

@@ -1,0 +1,29 @@
+-- `heads::eight` meets its contract: two stretches joined. Assumes nothing.
+use mathlib.Core.Path.{refl}
+use Rattle.heads.specs.Heads.Leads.Laws.{first-ahead}
+use native.Mathlib.Omega.{arith}
+use borrow.Author.Needs.{needs}
+use Rattle.heads.proofs.eight.Statement.{statement}
+use Rattle.heads.proofs.eight.Tie as tie
+use Rattle.heads.proofs.eight.Reads as reads
+use Rattle.heads.proofs.eight.Lts as lts
+use Rattle.heads.proofs.ahead.Reads as ahead-reads
+use Rattle.heads.proofs.four.Reads as four-reads
+
+four-requires : tie.Need-four-requires
+four-requires c κs = search needs
+
+add-four : tie.Need-add-four
+add-four c = search needs
+
+four-requires-2 : tie.Need-four-requires-2
+four-requires-2 c κs = search needs
+
+ahead-requires : tie.Need-ahead-requires
+ahead-requires c κs = search needs
+
+returns : tie.Need-returns
+returns c = first-ahead _ (c .ahead .ensures) (c .before .before .four .ensures) (c .before .four2 .ensures) refl (omega arith)
+
+pub eight-spec : {M : Type 1} → statement M
+eight-spec = tie.close (tie.spec four-requires add-four four-requires-2 ahead-requires returns)

@@ -1,0 +1,60 @@
+-- `heads::four` meets its contract: stretches joined two by two. Assumes nothing.
+use mathlib.Core.Path.{refl}
+use Rattle.heads.specs.Heads.Leads.Laws.{first-ahead}
+use native.Mathlib.Omega.{arith}
+use borrow.Author.Needs.{needs}
+use Rattle.heads.proofs.four.Statement.{statement}
+use Rattle.heads.proofs.four.Tie as tie
+use Rattle.heads.proofs.four.Reads as reads
+use Rattle.heads.proofs.four.Lts as lts
+use Rattle.heads.proofs.ahead.Reads as ahead-reads
+use Rattle.heads.proofs.lead_at.Reads as lead-at-reads
+
+lead-at-requires : tie.Need-lead-at-requires
+lead-at-requires c κs = search needs
+
+add-lead-at : tie.Need-add-lead-at
+add-lead-at c = search needs
+
+lead-at-requires-2 : tie.Need-lead-at-requires-2
+lead-at-requires-2 c κs = search needs
+
+ahead-requires : tie.Need-ahead-requires
+ahead-requires c κs = search needs
+
+add-lead-at-2 : tie.Need-add-lead-at-2
+add-lead-at-2 c = search needs
+
+lead-at-requires-3 : tie.Need-lead-at-requires-3
+lead-at-requires-3 c κs = search needs
+
+add-lead-at-3 : tie.Need-add-lead-at-3
+add-lead-at-3 c = search needs
+
+lead-at-requires-4 : tie.Need-lead-at-requires-4
+lead-at-requires-4 c κs = search needs
+
+ahead-requires-2 : tie.Need-ahead-requires-2
+ahead-requires-2 c κs = search needs
+
+ahead-requires-3 : tie.Need-ahead-requires-3
+ahead-requires-3 c κs = search needs
+
+returns : tie.Need-returns
+returns c = first-ahead _ (c .ahead3 .ensures) (first-ahead _ (c .before .before .before .before .ahead .ensures) (c .before .before .before .before .before .before .lead-at .ensures) (c .before .before .before .before .before .lead-at2 .ensures) refl refl) (first-ahead _ (c .before .ahead2 .ensures) (c .before .before .before .lead-at3 .ensures) (c .before .before .lead-at4 .ensures) (omega arith) refl) (omega arith) (omega arith)
+
+pub four-spec : {M : Type 1} → statement M
+four-spec =
+    tie.close
+    (tie.spec
+    lead-at-requires
+    add-lead-at
+    lead-at-requires-2
+    ahead-requires
+    add-lead-at-2
+    lead-at-requires-3
+    add-lead-at-3
+    lead-at-requires-4
+    ahead-requires-2
+    ahead-requires-3
+    returns)

@@ -1,0 +1,41 @@
+-- `heads::leader` meets its contract: up to eight runs are one block, and all are eight. Assumes nothing.
+use mathlib.Core.Path.{refl}
+use Rattle.heads.specs.Heads.Leads.{one, all}
+use Rattle.heads.specs.Heads.Leads.Laws.{topped-ahead}
+use borrow.Author.Needs.{needs}
+use Rattle.heads.proofs.leader.Statement.{statement}
+use Rattle.heads.proofs.leader.Tie as tie
+use Rattle.heads.proofs.leader.Reads as reads
+use Rattle.heads.proofs.leader.Lts as lts
+use Rattle.heads.proofs.ahead.Reads as ahead-reads
+use Rattle.heads.proofs.four_kept.Reads as four-kept-reads
+use Rattle.heads.proofs.kept.Reads as kept-reads
+
+kept-requires : tie.Need-kept-requires
+kept-requires c κs = search needs
+
+returns : tie.Need-returns
+returns c = one (c .before .if1 .taken) (c .kept .ensures)
+
+four-kept-requires : tie.Need-four-kept-requires
+four-kept-requires c κs = search needs
+
+four-kept-requires-2 : tie.Need-four-kept-requires-2
+four-kept-requires-2 c κs = search needs
+
+ahead-requires : tie.Need-ahead-requires
+ahead-requires c κs = search needs
+
+returns-2 : tie.Need-returns-2
+returns-2 c = all (c .before .before .before .before .before .before .pre .2) (topped-ahead _ _ (c .ahead .ensures) (c .before .before .four-kept .ensures) (c .before .four-kept2 .ensures) refl refl)
+
+pub leader-spec : {M : Type 1} → statement M
+leader-spec =
+    tie.close
+    (tie.spec
+    kept-requires
+    returns
+    four-kept-requires
+    four-kept-requires-2
+    ahead-requires
+    returns-2)

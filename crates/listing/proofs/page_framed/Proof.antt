@@ -1,0 +1,86 @@
+-- `listing::page_framed` meets its contract. Assumes nothing.
+use Rattle.listing.specs.Code.{told-is, told-left, page-ends, end-left, page-off, off-left}
+use Rattle.standing.specs.Tested.{told-spot, belongs-low}
+use Rattle.walk.specs.Answers.Code.{walking}
+use native.Mathlib.Omega.{arith}
+use borrow.Author.Needs.{needs}
+use Rattle.listing.proofs.page_framed.Statement.{statement}
+use Rattle.listing.proofs.page_framed.Tie as tie
+use Rattle.listing.proofs.page_framed.Reads as reads
+use Rattle.listing.proofs.page_framed.Lts as lts
+use Rattle.listing.proofs.page_ends.Reads as page-ends-reads
+use Rattle.listing.proofs.page_refused.Reads as page-refused-reads
+use Rattle.listing.proofs.told_page.Reads as told-page-reads
+use Rattle.paging.proofs.page_from.Reads as page-from-reads
+use Rattle.standing.proofs.belongs.Reads as belongs-reads
+use Rattle.standing.proofs.place_numbers.Reads as place-numbers-reads
+
+-- src/calls.rt:99:18
+place-numbers-requires : tie.Need-place-numbers-requires
+place-numbers-requires c κs = search needs
+
+-- src/calls.rt:102:8
+belongs-requires : tie.Need-belongs-requires
+belongs-requires c κs = ((walking (c .before .before .before .before .before .before .before .before .before .pre .0) (c .before .before .before .before .before .before .before .before .before .pre .1)) .index, (walking (c .before .before .before .before .before .before .before .before .before .pre .0) (c .before .before .before .before .before .before .before .before .before .pre .1)) .few)
+
+-- src/calls.rt:106:42
+slice-aggregate-page-from : tie.Need-slice-aggregate-page-from
+slice-aggregate-page-from c = search needs
+
+-- src/calls.rt:106:51
+slice-aggregate-page-from-2 : tie.Need-slice-aggregate-page-from-2
+slice-aggregate-page-from-2 c = search needs
+
+-- src/calls.rt:106:17
+page-from-requires : tie.Need-page-from-requires
+page-from-requires c κs = ((walking (c .before .before .before .before .before .before .before .before .before .before .before .before .before .before .before .before .pre .0) (c .before .before .before .before .before .before .before .before .before .before .before .before .before .before .before .before .pre .1)), (c .before .before .before .before .before .before .before .before .before .before .before .before .before .before .before .before .pre .0 .at, (c .before .before .before .if2 .taken, omega (arith, belongs-low (walking (c .before .before .before .before .before .before .before .before .before .before .before .before .before .before .before .before .pre .0) (c .before .before .before .before .before .before .before .before .before .before .before .before .before .before .before .before .pre .1)) _ (told-spot _ _ (c .before .before .before .before .before .before .before .before .before .before .before .before .before .before .before .before .args .from) (c .before .before .before .before .before .before .before .before .before .place-numbers .ensures) (c .before .before .before .before .before .before .belongs .ensures)) (c .before .before .before .before .before .if1 .taken) (c .before .before .before .if2 .taken)))))
+
+-- src/calls.rt:104:13
+told-page-requires : tie.Need-told-page-requires
+told-page-requires c κs = search needs
+
+-- src/calls.rt:104:13
+same-length : tie.Need-same-length
+same-length c = search needs
+
+-- src/calls.rt:104:13
+returns : tie.Need-returns
+returns c = (told-is (walking (c .before .before .before .before .before .before .before .before .before .before .before .before .before .before .before .before .before .before .before .before .pre .0) (c .before .before .before .before .before .before .before .before .before .before .before .before .before .before .before .before .before .before .before .before .pre .1)) _ _ (told-spot _ _ (c .before .before .before .before .before .before .before .before .before .before .before .before .before .before .before .before .before .before .before .before .args .from) (c .before .before .before .before .before .before .before .before .before .before .before .before .before .place-numbers .ensures) (c .before .before .before .before .before .before .before .before .before .before .belongs .ensures)) (c .before .before .before .before .before .before .before .before .before .if1 .taken) _ _ (c .before .before .before .page-from .ensures) (c .told-page .ensures), told-left (walking (c .before .before .before .before .before .before .before .before .before .before .before .before .before .before .before .before .before .before .before .before .pre .0) (c .before .before .before .before .before .before .before .before .before .before .before .before .before .before .before .before .before .before .before .before .pre .1)) _ _ (told-spot _ _ (c .before .before .before .before .before .before .before .before .before .before .before .before .before .before .before .before .before .before .before .before .args .from) (c .before .before .before .before .before .before .before .before .before .before .before .before .before .place-numbers .ensures) (c .before .before .before .before .before .before .before .before .before .before .belongs .ensures)) (c .before .before .before .before .before .before .before .before .before .if1 .taken) _ _ (c .before .before .before .page-from .ensures))
+
+-- src/calls.rt:110:9
+page-ends-requires : tie.Need-page-ends-requires
+page-ends-requires c κs = search needs
+
+-- src/calls.rt:110:9
+returns-2 : tie.Need-returns-2
+returns-2 c = (page-ends (walking (c .before .before .before .before .before .before .before .before .before .before .before .before .before .before .pre .0) (c .before .before .before .before .before .before .before .before .before .before .before .before .before .before .pre .1)) _ _ (told-spot _ _ (c .before .before .before .before .before .before .before .before .before .before .before .before .before .before .args .from) (c .before .before .before .before .before .before .before .place-numbers .ensures) (c .before .before .before .before .belongs .ensures)) (c .before .before .before .if1 .taken) (c .before .if2 .left) (c .page-ends .ensures), end-left (walking (c .before .before .before .before .before .before .before .before .before .before .before .before .before .before .pre .0) (c .before .before .before .before .before .before .before .before .before .before .before .before .before .before .pre .1)) _ _ (told-spot _ _ (c .before .before .before .before .before .before .before .before .before .before .before .before .before .before .args .from) (c .before .before .before .before .before .before .before .place-numbers .ensures) (c .before .before .before .before .belongs .ensures)) (c .before .before .before .if1 .taken) (c .before .if2 .left))
+
+-- src/calls.rt:112:43
+cast-t26 : tie.Need-cast-t26
+cast-t26 c = search needs
+
+-- src/calls.rt:112:5
+page-refused-requires : tie.Need-page-refused-requires
+page-refused-requires c κs = search needs
+
+-- src/calls.rt:81:1
+returns-3 : tie.Need-returns-3
+returns-3 c = (page-off (walking (c .before .before .before .before .before .before .before .before .before .before .before .before .before .pre .0) (c .before .before .before .before .before .before .before .before .before .before .before .before .before .pre .1)) _ _ (told-spot _ _ (c .before .before .before .before .before .before .before .before .before .before .before .before .before .args .from) (c .before .before .before .before .before .before .place-numbers .ensures) (c .before .before .before .belongs .ensures)) (c .before .before .if1 .left) (c .page-refused .ensures), off-left (walking (c .before .before .before .before .before .before .before .before .before .before .before .before .before .pre .0) (c .before .before .before .before .before .before .before .before .before .before .before .before .before .pre .1)) _ _ (told-spot _ _ (c .before .before .before .before .before .before .before .before .before .before .before .before .before .args .from) (c .before .before .before .before .before .before .place-numbers .ensures) (c .before .before .before .belongs .ensures)) (c .before .before .if1 .left))
+
+pub page-framed-spec : {M : Type 1} → statement M
+page-framed-spec =
+    tie.close
+    (tie.spec
+    place-numbers-requires
+    belongs-requires
+    slice-aggregate-page-from
+    slice-aggregate-page-from-2
+    page-from-requires
+    told-page-requires
+    same-length
+    returns
+    page-ends-requires
+    returns-2
+    cast-t26
+    page-refused-requires
+    returns-3)

@@ -1,0 +1,100 @@
+use mathlib.Core.Path.{refl}
+use Rattle.heads.specs.Heads.Leads.Laws.{raised}
+-- `records::only::put_next` meets its contract. `only-cut` says that the stretch handed on is the run. Assumes nothing.
+use Rattle.records.specs.Code.Only.{only-cut, only-key, only-spelled}
+use Rattle.records.specs.Code.Records.{mark-low, old-low}
+use native.Mathlib.Omega.{arith}
+use borrow.Author.Needs.{needs}
+use Rattle.only.proofs.put_next.Statement.{statement}
+use Rattle.only.proofs.put_next.Tie as tie
+use Rattle.only.proofs.put_next.Reads as reads
+use Rattle.only.proofs.put_next.Lts as lts
+use Rattle.records.proofs.gone_mark.Reads as gone-mark-reads
+use Rattle.records.proofs.old_mark.Reads as old-mark-reads
+use Rattle.tray.proofs.run.key_at.Reads as key-at-reads
+use Rattle.tray.proofs.run.kind_at.Reads as kind-at-reads
+
+shared-slice-read-a : tie.Need-shared-slice-read-a
+shared-slice-read-a c = omega (arith, c .before .before .before .before .before .before .pre .0 .at, c .before .before .before .before .before .before .pre .1)
+
+shared-slice-read-e : tie.Need-shared-slice-read-e
+shared-slice-read-e c = omega (arith, c .before .before .before .before .before .before .before .pre .0 .at, c .before .before .before .before .before .before .before .pre .1)
+
+slice-read-p : tie.Need-slice-read-p
+slice-read-p c = omega (arith, c .before .before .before .before .before .before .before .before .pre .0)
+
+sub-key-at : tie.Need-sub-key-at
+sub-key-at c = only-cut (c .before .before .before .before .before .before .before .before .pre .0) (c .before .before .before .before .before .before .before .before .pre .1 .0) .start
+
+part-key-at-start : tie.Need-part-key-at-start
+part-key-at-start c = only-cut (c .before .before .before .before .before .before .before .before .pre .0) (c .before .before .before .before .before .before .before .before .pre .1 .0) .start
+
+part-key-at-end : tie.Need-part-key-at-end
+part-key-at-end c = only-cut (c .before .before .before .before .before .before .before .before .pre .0) (c .before .before .before .before .before .before .before .before .pre .1 .0) .end
+
+key-at-requires : tie.Need-key-at-requires
+key-at-requires c κs = let k = only-cut (c .before .before .before .before .before .before .before .before .before .pre .0) (c .before .before .before .before .before .before .before .before .before .pre .1 .0) in omega (arith, k .whole, k .records, c .before .before .before .before .before .before .before .before .before .pre .1)
+
+sub-kind-at : tie.Need-sub-kind-at
+sub-kind-at c = only-cut (c .before .before .before .before .before .before .before .before .before .before .pre .0) (c .before .before .before .before .before .before .before .before .before .before .pre .1 .0) .start
+
+part-kind-at-start : tie.Need-part-kind-at-start
+part-kind-at-start c = only-cut (c .before .before .before .before .before .before .before .before .before .before .pre .0) (c .before .before .before .before .before .before .before .before .before .before .pre .1 .0) .start
+
+part-kind-at-end : tie.Need-part-kind-at-end
+part-kind-at-end c = only-cut (c .before .before .before .before .before .before .before .before .before .before .pre .0) (c .before .before .before .before .before .before .before .before .before .before .pre .1 .0) .end
+
+kind-at-requires : tie.Need-kind-at-requires
+kind-at-requires c κs = let k = only-cut (c .before .before .before .before .before .before .before .before .before .before .before .pre .0) (c .before .before .before .before .before .before .before .before .before .before .before .pre .1 .0) in omega (arith, k .whole, k .records, c .before .before .before .before .before .before .before .before .before .before .before .pre .1)
+
+old-mark-requires : tie.Need-old-mark-requires
+old-mark-requires c κs = search needs
+
+gone-mark-requires : tie.Need-gone-mark-requires
+gone-mark-requires c κs = search needs
+
+add-seg : tie.Need-add-seg
+add-seg c = omega (arith, old-low _ _ (c .before .old-mark .ensures), mark-low (c .before .before .kind-at .result) (c .gone-mark .ensures))
+
+slice-write-seg : tie.Need-slice-write-seg
+slice-write-seg c = search needs
+
+add-places : tie.Need-add-places
+add-places c = let k = only-cut (c .before .before .before .before .before .before .before .before .before .before .before .before .before .before .pre .0) (c .before .before .before .before .before .before .before .before .before .before .before .before .before .before .pre .1 .0) in omega (arith, k .few, k .records, c .before .before .before .before .before .before .before .before .before .before .before .before .before .before .pre .1)
+
+slice-write-places : tie.Need-slice-write-places
+slice-write-places c = omega (arith, c .before .before .before .before .before .before .before .before .before .before .before .before .before .before .pre .0)
+
+same-length : tie.Need-same-length
+same-length c = search needs
+
+same-length-2 : tie.Need-same-length-2
+same-length-2 c = search needs
+
+returns : tie.Need-returns
+returns c = let k = only-cut (c .before .before .before .before .before .before .before .before .before .before .before .before .before .before .pre .0) (c .before .before .before .before .before .before .before .before .before .before .before .before .before .before .pre .1 .0) in (only-key _ _ (k .bytes) refl (c .before .before .before .before .key-at .ensures), (only-spelled _ _ _ _ _ _ (k .bytes) (c .before .before .kind-at .ensures) (c .before .old-mark .ensures) (c .gone-mark .ensures), raised _ refl))
+
+pub put-next-spec : {M : Type 1} → statement M
+put-next-spec =
+    tie.close
+    (tie.spec
+    shared-slice-read-a
+    shared-slice-read-e
+    slice-read-p
+    sub-key-at
+    part-key-at-start
+    part-key-at-end
+    key-at-requires
+    sub-kind-at
+    part-kind-at-start
+    part-kind-at-end
+    kind-at-requires
+    old-mark-requires
+    gone-mark-requires
+    add-seg
+    slice-write-seg
+    add-places
+    slice-write-places
+    same-length
+    same-length-2
+    returns)

@@ -1,0 +1,100 @@
+-- `only::put_only` meets its contract: what comes next has the last key, has another one, or is nothing. Assumes nothing.
+use mathlib.Core.Path.{refl}
+use Rattle.records.specs.Code.Only.{next-only, only-cut, only-key, only-over}
+use Rattle.records.specs.Code.Records.{fills-cut, fills-other}
+use Rattle.records.specs.Code.Taken.{steps-select}
+use native.Mathlib.Omega.{arith}
+use borrow.Author.Needs.{needs}
+use Rattle.only.proofs.put_only.Statement.{statement}
+use Rattle.only.proofs.put_only.Tie as tie
+use Rattle.only.proofs.put_only.Reads as reads
+use Rattle.only.proofs.put_only.Lts as lts
+use Rattle.records.proofs.cut_back.Reads as cut-back-reads
+use Rattle.only.proofs.put_run.Reads as put-run-reads
+use Rattle.records.proofs.other_key.Reads as other-key-reads
+use Rattle.tray.proofs.run.key_at.Reads as key-at-reads
+
+other-key-requires : tie.Need-other-key-requires
+other-key-requires c κs = search needs
+
+put-run-requires : tie.Need-put-run-requires
+put-run-requires c κs = search needs
+
+shared-slice-read-a : tie.Need-shared-slice-read-a
+shared-slice-read-a c = omega (arith, c .before .before .before .before .before .before .before .before .before .before .before .before .before .before .pre .0 .at, c .before .before .before .before .before .before .before .before .before .before .before .before .before .before .pre .1)
+
+shared-slice-read-e : tie.Need-shared-slice-read-e
+shared-slice-read-e c = omega (arith, c .before .before .before .before .before .before .before .before .before .before .before .before .before .before .before .pre .0 .at, c .before .before .before .before .before .before .before .before .before .before .before .before .before .before .before .pre .1)
+
+slice-read-p : tie.Need-slice-read-p
+slice-read-p c = omega (arith, c .before .before .before .before .before .before .before .before .before .before .before .before .before .before .before .before .pre .0, c .before .before .before .before .before .before .before .put-run .kept)
+
+shared-slice-read-if1 : tie.Need-shared-slice-read-if1
+shared-slice-read-if1 c = omega (arith, c .before .before .before .before .before .before .before .before .before .before .before .before .before .before .before .before .before .pre .0)
+
+sub-key-at : tie.Need-sub-key-at
+sub-key-at c = only-cut (c .before .before .before .before .before .before .before .before .before .before .before .before .before .before .before .before .before .before .pre .0) (c .before .before .before .before .before .before .before .before .before .before .before .before .before .before .before .before .before .before .pre .1 .0) .start
+
+part-key-at-start : tie.Need-part-key-at-start
+part-key-at-start c = only-cut (c .before .before .before .before .before .before .before .before .before .before .before .before .before .before .before .before .before .before .pre .0) (c .before .before .before .before .before .before .before .before .before .before .before .before .before .before .before .before .before .before .pre .1 .0) .start
+
+part-key-at-end : tie.Need-part-key-at-end
+part-key-at-end c = only-cut (c .before .before .before .before .before .before .before .before .before .before .before .before .before .before .before .before .before .before .pre .0) (c .before .before .before .before .before .before .before .before .before .before .before .before .before .before .before .before .before .before .pre .1 .0) .end
+
+key-at-requires : tie.Need-key-at-requires
+key-at-requires c κs = let k = only-cut (c .before .before .before .before .before .before .before .before .before .before .before .before .before .before .before .before .before .before .before .pre .0) (c .before .before .before .before .before .before .before .before .before .before .before .before .before .before .before .before .before .before .before .pre .1 .0) in omega (arith, k .whole, c .before .if1 .taken)
+
+cut-back-requires : tie.Need-cut-back-requires
+cut-back-requires c κs = (steps-select (omega arith) (omega (arith, c .before .before .before .before .before .before .before .before .before .before .before .before .before .before .before .before .before .before .before .before .before .before .before .before .pre .1)) (c .before .before .before .before .before .before .before .before .before .before .before .before .before .before .before .put-run .ensures .steps), omega (arith, c .before .before .before .before .before .before .before .before .before .before .before .before .before .before .before .before .before .before .before .before .before .before .before .before .pre .0, c .before .before .before .before .before .before .before .before .before .before .before .before .before .before .before .put-run .kept))
+
+same-length : tie.Need-same-length
+same-length c = search needs
+
+same-length-2 : tie.Need-same-length-2
+same-length-2 c = search needs
+
+returns : tie.Need-returns
+returns c = (fills-cut (c .before .before .before .before .before .before .before .before .before .before .before .before .before .before .before .before .before .before .before .before .other-key .ensures) (c .before .before .before .before .before .before .before .before .before .before .before .before .before .before .before .before .before .before .put-run .ensures) (next-only _ _ (omega (arith, c .before .before .before .before .before .before .before .before .before .if1 .taken, only-cut (c .before .before .before .before .before .before .before .before .before .before .before .before .before .before .before .before .before .before .before .before .before .before .before .before .before .before .before .pre .0) (c .before .before .before .before .before .before .before .before .before .before .before .before .before .before .before .before .before .before .before .before .before .before .before .before .before .before .before .pre .1 .0) .records)) (only-key _ _ (only-cut (c .before .before .before .before .before .before .before .before .before .before .before .before .before .before .before .before .before .before .before .before .before .before .before .before .before .before .before .pre .0) (c .before .before .before .before .before .before .before .before .before .before .before .before .before .before .before .before .before .before .before .before .before .before .before .before .before .before .before .pre .1 .0) .bytes) refl (c .before .before .before .before .before .before .before .key-at .ensures))) (c .before .before .before .before .before .if2 .taken) (c .before .before .cut-back .ensures .0), (c .before .before .cut-back .ensures .1 .0, omega (arith, c .before .before .cut-back .ensures .1, c .before .before .before .before .before .before .before .before .before .before .before .before .before .before .before .before .before .before .put-run .ensures .inside)))
+
+same-length-3 : tie.Need-same-length-3
+same-length-3 c = search needs
+
+same-length-4 : tie.Need-same-length-4
+same-length-4 c = search needs
+
+returns-2 : tie.Need-returns-2
+returns-2 c = (fills-other (c .before .before .before .before .before .before .before .before .before .before .before .before .before .before .before .other-key .ensures) (c .before .before .before .before .before .before .before .before .before .before .before .before .before .put-run .ensures) (next-only _ _ (omega (arith, c .before .before .before .before .if1 .taken, only-cut (c .before .before .before .before .before .before .before .before .before .before .before .before .before .before .before .before .before .before .before .before .before .before .pre .0) (c .before .before .before .before .before .before .before .before .before .before .before .before .before .before .before .before .before .before .before .before .before .before .pre .1 .0) .records)) (only-key _ _ (only-cut (c .before .before .before .before .before .before .before .before .before .before .before .before .before .before .before .before .before .before .before .before .before .before .pre .0) (c .before .before .before .before .before .before .before .before .before .before .before .before .before .before .before .before .before .before .before .before .before .before .pre .1 .0) .bytes) refl (c .before .before .key-at .ensures))) (c .if2 .left), (c .before .before .before .before .before .before .before .before .before .before .before .before .before .put-run .ensures .begun, c .before .before .before .before .before .before .before .before .before .before .before .before .before .put-run .ensures .inside))
+
+same-length-5 : tie.Need-same-length-5
+same-length-5 c = search needs
+
+same-length-6 : tie.Need-same-length-6
+same-length-6 c = search needs
+
+returns-3 : tie.Need-returns-3
+returns-3 c = (only-over (c .before .before .before .before .before .before .before .before .before .before .before .other-key .ensures) (c .before .before .before .before .before .before .before .before .before .put-run .ensures) (omega (arith, c .if1 .left, only-cut (c .before .before .before .before .before .before .before .before .before .before .before .before .before .before .before .before .before .before .pre .0) (c .before .before .before .before .before .before .before .before .before .before .before .before .before .before .before .before .before .before .pre .1 .0) .records)), (c .before .before .before .before .before .before .before .before .before .put-run .ensures .begun, c .before .before .before .before .before .before .before .before .before .put-run .ensures .inside))
+
+pub put-only-spec : {M : Type 1} → statement M
+put-only-spec =
+    tie.close
+    (tie.spec
+    other-key-requires
+    put-run-requires
+    shared-slice-read-a
+    shared-slice-read-e
+    slice-read-p
+    shared-slice-read-if1
+    sub-key-at
+    part-key-at-start
+    part-key-at-end
+    key-at-requires
+    cut-back-requires
+    same-length
+    same-length-2
+    returns
+    same-length-3
+    same-length-4
+    returns-2
+    same-length-5
+    same-length-6
+    returns-3)

@@ -1,0 +1,81 @@
+-- `points::put_all` meets its contract. Invariant: the first `i` records are written. Measure: the records left. Assumes nothing.
+use mathlib.Core.Path.{refl}
+use Prim.Native.Nat.{_-_}
+use Rattle.gathering.specs.Stops.Laws.{within-at}
+use Rattle.points.specs.Put.Code.{Putting, putting-first, putting-more, putting-all, part-long}
+use native.Mathlib.Omega.{arith}
+use Rattle.points.proofs.put_all.Statement.{statement}
+use Rattle.points.proofs.put_all.Tie as tie
+
+abbrev Inv-loop : tie.InvT-loop
+Inv-loop t ats k count out₀ i₀ out i = Putting t ats k count out₀ i out
+
+abbrev μ-loop : tie.MeasureT-loop
+μ-loop t ats k count out₀ i₀ out i = k - i
+
+loop-holds : tie.Need-loop-holds Inv-loop μ-loop
+loop-holds c = putting-first _ _ _ _ _
+
+mul-a : tie.Need-mul-a Inv-loop μ-loop
+mul-a c = omega (arith, c .loop-test .taken, c .before .before .before .before .before .pre .1 .0, c .before .before .before .before .before .pre .1 .1, c .before .before .before .before .before .good .1 .1 .1 .1 .0 .0)
+
+shared-slice-read-a : tie.Need-shared-slice-read-a Inv-loop μ-loop
+shared-slice-read-a c = omega (arith, c .before .loop-test .taken, c .before .before .before .before .before .before .pre .1 .0)
+
+add-write-from : tie.Need-add-write-from Inv-loop μ-loop
+add-write-from c = omega (arith, within-at _ _ (c .before .before .before .before .before .before .pre .0) _ (c .before .loop-test .taken) (c .before .before .before .before .before .before .pre .1 .0), c .before .before .before .before .before .before .good .0 .0)
+
+sub-write-from : tie.Need-sub-write-from Inv-loop μ-loop
+sub-write-from c = omega arith
+
+part-write-from-start : tie.Need-part-write-from-start Inv-loop μ-loop
+part-write-from-start c = omega arith
+
+part-write-from-end : tie.Need-part-write-from-end Inv-loop μ-loop
+part-write-from-end c = omega (arith, within-at _ _ (c .before .before .before .before .before .before .pre .0) _ (c .before .loop-test .taken) (c .before .before .before .before .before .before .pre .1 .0))
+
+add-write-from-2 : tie.Need-add-write-from-2 Inv-loop μ-loop
+add-write-from-2 c = omega (arith, c .before .before .before .loop-test .taken, c .before .before .before .before .before .before .before .before .pre .1 .1, c .before .before .before .before .before .before .before .before .good .1 .1 .1 .1 .0 .0)
+
+mul-write-from : tie.Need-mul-write-from Inv-loop μ-loop
+mul-write-from c = omega (arith, c .before .before .before .loop-test .taken, c .before .before .before .before .before .before .before .before .pre .1 .1, c .before .before .before .before .before .before .before .before .good .1 .1 .1 .1 .0 .0)
+
+write-from-requires : tie.Need-write-from-requires Inv-loop μ-loop
+write-from-requires c κs = (part-long _ _ refl (within-at _ _ (c .before .before .before .before .before .before .before .before .pre .0) _ (c .before .before .before .loop-test .taken) (c .before .before .before .before .before .before .before .before .pre .1 .0)), omega (arith, c .before .before .before .loop-test .taken, c .before .before .before .before .before .before .before .before .pre .1 .1, c .before .before .before .before .loop .inv .kept))
+
+add-i : tie.Need-add-i Inv-loop μ-loop
+add-i c = omega arith
+
+loop-less : tie.Need-loop-less Inv-loop μ-loop
+loop-less c = omega arith
+
+loop-again : tie.Need-loop-again Inv-loop μ-loop
+loop-again c = putting-more (c .before .before .before .before .before .before .before .loop .inv) (c .before .before .before .before .before .before .loop-test .taken) (c .before .before .before .before .before .before .before .before .before .before .before .pre .1 .0) (c .before .before .before .before .before .before .before .before .before .before .before .pre .1 .1) refl (c .before .before .write-from .ensures)
+
+same-length : tie.Need-same-length Inv-loop μ-loop
+same-length c = c .before .loop .inv .kept
+
+returns : tie.Need-returns Inv-loop μ-loop
+returns c = putting-all (c .before .loop .inv) (c .loop-test .left)
+
+pub put-all-spec : {M : Type 1} → statement M
+put-all-spec =
+    tie.close
+    (tie.spec
+    Inv-loop
+    μ-loop
+    loop-holds
+    mul-a
+    shared-slice-read-a
+    add-write-from
+    sub-write-from
+    part-write-from-start
+    part-write-from-end
+    add-write-from-2
+    mul-write-from
+    write-from-requires
+    add-i
+    loop-less
+    loop-again
+    same-length
+    returns)

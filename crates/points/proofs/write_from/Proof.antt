@@ -1,0 +1,69 @@
+-- `points::write_from` meets its contract: three writes, one right behind another. Assumes nothing.
+use mathlib.Core.Path.{ap}
+use Prim.Native.Nat.{ℕ, _*_}
+use Rattle.points.specs.Page.Code.{put-listed}
+use native.Mathlib.Omega.{arith}
+use borrow.Author.Needs.{needs}
+use Rattle.points.proofs.write_from.Statement.{statement}
+use Rattle.points.proofs.write_from.Tie as tie
+
+size16-requires : tie.Need-size16-requires
+size16-requires c κs = search needs
+
+mul-from : tie.Need-mul-from
+mul-from c = search needs
+
+big8-requires : tie.Need-big8-requires
+big8-requires c κs = search needs
+
+put8-requires : tie.Need-put8-requires
+put8-requires c κs = search needs
+
+add-big8 : tie.Need-add-big8
+add-big8 c = search needs
+
+big8-requires-2 : tie.Need-big8-requires-2
+big8-requires-2 c κs = search needs
+
+add-big8-2 : tie.Need-add-big8-2
+add-big8-2 c = search needs
+
+big8-requires-3 : tie.Need-big8-requires-3
+big8-requires-3 c κs = search needs
+
+add-put8 : tie.Need-add-put8
+add-put8 c = search needs
+
+put8-requires-2 : tie.Need-put8-requires-2
+put8-requires-2 c κs = search needs
+
+add-put8-2 : tie.Need-add-put8-2
+add-put8-2 c = search needs
+
+put8-requires-3 : tie.Need-put8-requires-3
+put8-requires-3 c κs = search needs
+
+same-length : tie.Need-same-length
+same-length c = search needs
+
+returns : tie.Need-returns
+returns c = put-listed _ _ _ _ (omega arith) (omega arith) (ap (λ (k : ℕ). 25 * k) (c .before .before .before .before .before .before .before .before .before .before .before .before .before .before .before .size16 .ensures)) (c .before .before .before .before .before .before .before .before .before .before .before .before .before .big8 .ensures) (c .before .before .before .before .before .before .before .before .before .big82 .ensures) (c .before .before .before .before .before .before .before .before .big83 .ensures) (c .before .before .before .before .before .before .before .before .before .before .before .before .put8 .ensures) (c .before .before .before .before .before .before .put82 .ensures) (c .before .before .put83 .ensures)
+
+pub write-from-spec : {M : Type 1} → statement M
+write-from-spec =
+    tie.close
+    (tie.spec
+    size16-requires
+    mul-from
+    big8-requires
+    put8-requires
+    add-big8
+    big8-requires-2
+    add-big8-2
+    big8-requires-3
+    add-put8
+    put8-requires-2
+    add-put8-2
+    put8-requires-3
+    same-length
+    returns)

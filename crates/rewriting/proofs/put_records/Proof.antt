@@ -1,0 +1,64 @@
+-- `rewriting::put_records` meets its contract. Invariant: the records from number j on, written from there, complete the copy. Measure: the
+-- records left. Assumes nothing.
+use Rattle.rewriting.specs.Code.Writes.{Putting, putting-none, putting-more, putting-end, kept-inside}
+use Prim.Native.Nat.{_-_}
+use native.Mathlib.Omega.{arith}
+use Rattle.rewriting.proofs.put_records.Statement.{statement}
+use Rattle.rewriting.proofs.put_records.Tie as tie
+
+abbrev Inv-loop : tie.InvT-loop
+Inv-loop t kept n out₀ at j₀ out j = Putting t kept n at out₀ out j
+
+abbrev μ-loop : tie.MeasureT-loop
+μ-loop t kept n out₀ at j₀ out j = n - j
+
+loop-holds : tie.Need-loop-holds Inv-loop μ-loop
+loop-holds c = putting-none _ _ _ _ _
+
+mul-put-record : tie.Need-mul-put-record Inv-loop μ-loop
+mul-put-record c = omega (arith, c .before .before .before .before .before .pre .0)
+
+shared-slice-read-put-record : tie.Need-shared-slice-read-put-record Inv-loop μ-loop
+shared-slice-read-put-record c = omega (arith, c .before .before .before .before .before .before .pre .0)
+
+mul-put-record-2 : tie.Need-mul-put-record-2 Inv-loop μ-loop
+mul-put-record-2 c = omega (arith, c .before .before .before .before .before .before .before .pre .0)
+
+add-put-record : tie.Need-add-put-record Inv-loop μ-loop
+add-put-record c = omega (arith, c .before .before .before .before .before .before .before .pre .0)
+
+put-record-requires : tie.Need-put-record-requires Inv-loop μ-loop
+put-record-requires c κs = (kept-inside (c .before .before .before .before .before .before .before .args .t .now) (c .before .before .before .before .before .before .before .args .kept .now) (c .before .before .before .before .before .before .before .pre .0 .0) (c .before .before .before .before .before .before .before .pre .1) (c .before .before .loop-test .taken), omega (arith, c .before .before .before .before .before .before .before .pre .0, c .before .before .before .loop .inv .room))
+
+add-j : tie.Need-add-j Inv-loop μ-loop
+add-j c = omega arith
+
+loop-less : tie.Need-loop-less Inv-loop μ-loop
+loop-less c = omega arith
+
+loop-again : tie.Need-loop-again Inv-loop μ-loop
+loop-again c = putting-more (c .before .before .before .before .before .before .before .before .before .before .pre .0 .0) (c .before .before .before .before .before .before .before .before .before .before .pre .0 .1) (c .before .before .before .before .before .before .loop .inv) (c .before .before .before .before .before .loop-test .taken) (c .before .before .put-record .ensures)
+
+same-length : tie.Need-same-length Inv-loop μ-loop
+same-length c = c .before .loop .inv .room
+
+returns : tie.Need-returns Inv-loop μ-loop
+returns c = putting-end (c .before .before .before .before .before .pre .0 .0) (c .before .loop .inv) (omega arith)
+
+pub put-records-spec : {M : Type 1} → statement M
+put-records-spec =
+    tie.close
+    (tie.spec
+    Inv-loop
+    μ-loop
+    loop-holds
+    mul-put-record
+    shared-slice-read-put-record
+    mul-put-record-2
+    add-put-record
+    put-record-requires
+    add-j
+    loop-less
+    loop-again
+    same-length
+    returns)

@@ -1,0 +1,86 @@
+-- `rewriting::write_tray` meets its contract: the head, and the body right behind it. Assumes nothing.
+use Rattle.rewriting.specs.Code.Trays.{tray-put, laid-parts}
+use Rattle.number.proofs.Known.{bytes-known}
+use mathlib.Core.Path.{sym, ap, _∙_}
+use lib.ListN.{length}
+use native.Mathlib.Omega.{arith}
+use borrow.Author.Needs.{needs}
+use Rattle.rewriting.proofs.write_tray.Statement.{statement}
+use Rattle.rewriting.proofs.write_tray.Tie as tie
+
+array-read-x : tie.Need-array-read-x
+array-read-x c = search needs
+
+wide-size-requires : tie.Need-wide-size-requires
+wide-size-requires c κs = search needs
+
+mul-y : tie.Need-mul-y
+mul-y c = search needs
+
+array-read-y : tie.Need-array-read-y
+array-read-y c = search needs
+
+wide-size-requires-2 : tie.Need-wide-size-requires-2
+wide-size-requires-2 c κs = search needs
+
+add-z : tie.Need-add-z
+add-z c = search needs
+
+mul-z : tie.Need-mul-z
+mul-z c = search needs
+
+array-read-z : tie.Need-array-read-z
+array-read-z c = search needs
+
+cast-put-head : tie.Need-cast-put-head
+cast-put-head c = search needs
+
+put-head-requires : tie.Need-put-head-requires
+put-head-requires c κs = let laid = laid-parts (c .before .before .before .before .before .before .before .pre .0 .0) (bytes-known (c .before .before .before .before .before .before .before .args .t .now) (c .before .before .before .before .before .before .shared-slice-known .given)) (c .before .before .before .before .before .before .before .pre .1 .0 .number) (c .before .before .wide-size .ensures) (c .before .wide-size2 .ensures) in (c .before .before .before .before .before .before .before .pre .0 .0 .opened .runs, c .before .before .before .before .before .before .before .pre .0 .0 .order, omega (arith, c .before .before .before .before .before .before .before .pre .0 .0 .within, c .before .before .before .before .before .before .before .pre .0 .0 .opened .runs), laid .counts, omega (arith, laid .size, c .before .before .before .before .before .before .before .pre .1 .1))
+
+sub-wide-size : tie.Need-sub-wide-size
+sub-wide-size c = search needs
+
+sub-wide-size-2 : tie.Need-sub-wide-size-2
+sub-wide-size-2 c = search needs
+
+wide-size-requires-3 : tie.Need-wide-size-requires-3
+wide-size-requires-3 c κs = search needs
+
+mul-put-body : tie.Need-mul-put-body
+mul-put-body c = search needs
+
+add-put-body : tie.Need-add-put-body
+add-put-body c = search needs
+
+put-body-requires : tie.Need-put-body-requires
+put-body-requires c κs = let laid = laid-parts (c .before .before .before .before .before .before .before .before .before .before .before .before .pre .0 .0) (bytes-known (c .before .before .before .before .before .before .before .before .before .before .before .before .args .t .now) (c .before .before .before .before .before .before .before .before .before .before .before .shared-slice-known .given)) (c .before .before .before .before .before .before .before .before .before .before .before .before .pre .1 .0 .number) (c .before .before .before .before .before .before .before .wide-size .ensures) (c .before .before .before .before .before .before .wide-size2 .ensures) in ((laid .up, laid .in-tray, laid .in-tray-2), ((omega (arith, c .before .before .before .before .before .before .before .before .before .before .before .before .pre .0 .1, c .before .before .before .before .before .before .before .before .before .before .before .before .pre .1 .0 .room), omega (arith, laid .size, c .before .before .before .before .before .before .before .before .before .before .before .before .pre .1 .1, c .wide-size3 .ensures, c .before .before .before .before .put-head .kept)), c .before .before .before .before .before .before .before .before .before .before .before .before .pre .1 .0 .inside))
+
+same-length : tie.Need-same-length
+same-length c = search needs
+
+returns : tie.Need-returns
+returns c = let laid = laid-parts (c .before .before .before .before .before .before .before .before .before .before .before .before .before .before .before .pre .0 .0) (bytes-known (c .before .before .before .before .before .before .before .before .before .before .before .before .before .before .before .args .t .now) (c .before .before .before .before .before .before .before .before .before .before .before .before .before .before .shared-slice-known .given)) (c .before .before .before .before .before .before .before .before .before .before .before .before .before .before .before .pre .1 .0 .number) (c .before .before .before .before .before .before .before .before .before .before .wide-size .ensures) (c .before .before .before .before .before .before .before .before .before .wide-size2 .ensures) in let is = c .before .before .before .before .before .before .before .before .before .before .before .before .before .before .before .pre .1 .0 .are (c .before .before .before .before .before .before .before .before .before .before .before .before .before .before .before .pre .0 .1) in tray-put (c .before .before .before .before .before .before .before .before .before .before .before .before .before .before .before .args .t .now) (c .before .before .before .before .before .before .before .before .before .before .before .before .before .before .before .args .out .now) (c .before .before .before .before .before .before .before .before .before .before .before .before .before .before .before .args .a .0) (c .before .before .before .before .before .before .before .before .before .before .before .before .before .before .before .args .b .0) (c .before .before .before .before .before .before .before .before .before .before .before .before .before .before .before .args .n) (c .before .before .before .before .before .before .before .before .before .before .before .before .before .before .before .pre .0 .0 .sound .frame) (bytes-known (c .before .before .before .before .before .before .before .before .before .before .before .before .before .before .before .args .t .now) (c .before .before .before .before .before .before .before .before .before .before .before .before .before .before .shared-slice-known .given)) (c .before .before .before .before .before .before .before .before .before .before .before .before .before .before .before .pre .0 .0 .order) (c .before .before .before .before .before .before .before .before .before .before .before .before .before .before .before .pre .0 .0 .within) (c .before .before .before .before .before .before .before .before .before .before .before .before .before .before .before .pre .1 .0 .number ∙ ap length (sym is)) is (laid .start) (laid .front) (laid .back) (omega (arith, c .before .before .before .wide-size3 .ensures, c .before .before .before .before .before .before .before .before .before .before .before .before .before .before .before .pre .0 .0 .opened .runs)) (c .before .before .before .before .before .before .before .put-head .ensures) (c .before .before .put-body .ensures)
+
+pub write-tray-spec : {M : Type 1} → statement M
+write-tray-spec =
+    tie.close
+    (tie.spec
+    array-read-x
+    wide-size-requires
+    mul-y
+    array-read-y
+    wide-size-requires-2
+    add-z
+    mul-z
+    array-read-z
+    cast-put-head
+    put-head-requires
+    sub-wide-size
+    sub-wide-size-2
+    wide-size-requires-3
+    mul-put-body
+    add-put-body
+    put-body-requires
+    same-length
+    returns)

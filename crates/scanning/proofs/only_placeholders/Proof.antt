@@ -1,0 +1,49 @@
+-- `scanning::only_placeholders` meets its contract. Invariant: the bytes left answer for all. Measure: the bytes left. Assumes nothing.
+use Prim.Native.Nat.{_≤_, _-_}
+use mathlib.Core.Path.{_≡_, refl, sym, _∙_}
+use Rattle.index.specs.Scan.{onlyPlaceholders}
+use Rattle.index.specs.Scan.Code.{only-end, only-next, only-stop}
+use native.Mathlib.Omega.{arith}
+use Rattle.scanning.proofs.only_placeholders.Statement.{statement}
+use Rattle.scanning.proofs.only_placeholders.Tie as tie
+
+abbrev Inv-loop : tie.InvT-loop
+Inv-loop x from to i₀ i = (from ≤ i) × (i ≤ to) × (onlyPlaceholders x (to - i) i ≡ onlyPlaceholders x (to - from) from)
+
+abbrev μ-loop : tie.MeasureT-loop
+μ-loop x from to i₀ i = to - i
+
+loop-holds : tie.Need-loop-holds Inv-loop μ-loop
+loop-holds c = (omega arith, omega arith, refl)
+
+shared-slice-read-if1 : tie.Need-shared-slice-read-if1 Inv-loop μ-loop
+shared-slice-read-if1 c = omega arith
+
+add-i : tie.Need-add-i Inv-loop μ-loop
+add-i c = omega arith
+
+loop-less : tie.Need-loop-less Inv-loop μ-loop
+loop-less c = omega arith
+
+loop-again : tie.Need-loop-again Inv-loop μ-loop
+loop-again c = (omega arith, omega arith, sym (only-next _ (c .before .before .loop-test .taken) (c .if1 .taken)) ∙ c .before .before .before .loop .inv .2)
+
+returns : tie.Need-returns Inv-loop μ-loop
+returns c = sym (only-stop _ (c .before .before .loop-test .taken) (c .if1 .left)) ∙ c .before .before .before .loop .inv .2
+
+returns-2 : tie.Need-returns-2 Inv-loop μ-loop
+returns-2 c = only-end _ (c .loop-test .left) ∙ c .before .loop .inv .2
+
+pub only-placeholders-spec : {M : Type 1} → statement M
+only-placeholders-spec =
+    tie.close
+    (tie.spec
+    Inv-loop
+    μ-loop
+    loop-holds
+    shared-slice-read-if1
+    add-i
+    loop-less
+    loop-again
+    returns
+    returns-2)

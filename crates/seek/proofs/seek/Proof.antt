@@ -1,0 +1,61 @@
+-- `seek::seek` meets its contract: the frames decide, and then the walk. Assumes nothing.
+use Rattle.walk.specs.Answers.{refusedSeek, seekAnswer, seekFramed}
+use Rattle.walk.specs.Answers.Code.{frames-tray, frames-index, frames-fit}
+use Rattle.index.specs.Layout.Code.{laid}
+use Rattle.tray.specs.Frame.Code.{opened}
+use mathlib.Core.Path.{sym, ap, _∙_}
+use borrow.Author.Needs.{needs}
+use Rattle.seek.proofs.seek.Statement.{statement}
+use Rattle.seek.proofs.seek.Tie as tie
+
+tray-frame-requires : tie.Need-tray-frame-requires
+tray-frame-requires c κs = search needs
+
+index-frame-requires : tie.Need-index-frame-requires
+index-frame-requires c κs = search needs
+
+enum-known-d : tie.Need-enum-known-d
+enum-known-d c = search needs
+
+big8-requires : tie.Need-big8-requires
+big8-requires c κs = search needs
+
+seek-framed-requires : tie.Need-seek-framed-requires
+seek-framed-requires c κs = (opened _ (c .before .before .before .before .before .before .before .tray-frame .ensures) (c .before .before .before .before .before .before .if1 .taken), laid _ _ (opened _ (c .before .before .before .before .before .before .before .tray-frame .ensures) (c .before .before .before .before .before .before .if1 .taken) .runs) (sym (c .before .before .before .d .given .1) ∙ c .before .before .before .before .before .index-frame .ensures))
+
+returns : tie.Need-returns
+unfolding seekAnswer
+returns c = frames-fit refusedSeek _ (c .before .before .before .before .before .before .before .before .tray-frame .ensures) (c .before .before .before .before .before .before .before .if1 .taken) _ (sym (c .before .before .before .before .d .given .1) ∙ c .before .before .before .before .before .before .index-frame .ensures) (c .seek-framed .ensures ∙ ap (seekFramed _ _) (c .before .big8 .ensures))
+
+enum-told : tie.Need-enum-told
+enum-told c = search needs
+
+seek-refused-requires : tie.Need-seek-refused-requires
+seek-refused-requires c κs = search needs
+
+returns-2 : tie.Need-returns-2
+unfolding seekAnswer
+returns-2 c = frames-index refusedSeek _ (c .before .before .before .before .before .tray-frame .ensures) (c .before .before .before .before .if1 .taken) _ (sym (c .before .enum-told .given .1) ∙ c .before .before .before .index-frame .ensures) (c .seek-refused .ensures)
+
+seek-refused-requires-2 : tie.Need-seek-refused-requires-2
+seek-refused-requires-2 c κs = search needs
+
+returns-3 : tie.Need-returns-3
+unfolding seekAnswer
+returns-3 c = frames-tray refusedSeek _ (c .before .before .tray-frame .ensures) _ (c .before .if1 .left) (c .seek-refused2 .ensures)
+
+pub seek-spec : {M : Type 1} → statement M
+seek-spec =
+    tie.close
+    (tie.spec
+    tray-frame-requires
+    index-frame-requires
+    enum-known-d
+    big8-requires
+    seek-framed-requires
+    returns
+    enum-told
+    seek-refused-requires
+    returns-2
+    seek-refused-requires-2
+    returns-3)

@@ -1,0 +1,48 @@
+use Rattle.walk.specs.Answers.{toldAs}
+use mathlib.Core.Path.{ap, sym, _∙_}
+use borrow.Author.Needs.{needs}
+use Rattle.seek.proofs.told_seek.Statement.{statement}
+use Rattle.seek.proofs.told_seek.Tie as tie
+use Rattle.seek.proofs.told_seek.Reads as reads
+use Rattle.seek.proofs.told_seek.Lts as lts
+use Rattle.seek.proofs.seek_refused.Reads as seek-refused-reads
+
+-- src/calls.rt:54:22
+enum-known-sight : tie.Need-enum-known-sight
+enum-known-sight c = search needs
+
+-- src/calls.rt:62:21
+enum-told : tie.Need-enum-told
+enum-told c = search needs
+
+-- src/calls.rt:69:21
+enum-known-sight-2 : tie.Need-enum-known-sight-2
+enum-known-sight-2 c = search needs
+
+-- src/calls.rt:69:30
+seek-refused-requires : tie.Need-seek-refused-requires
+seek-refused-requires c κs = search needs
+
+-- src/calls.rt:49:1
+returns : tie.Need-returns
+returns c = ap (λ a. toldAs (c .before .before .before .before .args .n) a (c .before .before .before .before .args .s .cursor)) (sym (c .before .before .sight .given .1))
+
+-- src/calls.rt:49:1
+returns-2 : tie.Need-returns-2
+returns-2 c = ap (λ a. toldAs (c .before .before .args .n) a (c .before .before .args .s .cursor)) (sym (c .enum-told .given .1))
+
+-- src/calls.rt:49:1
+returns-3 : tie.Need-returns-3
+returns-3 c = c .seek-refused .ensures ∙ ap (λ a. toldAs (c .before .before .before .before .args .n) a (c .before .before .before .before .args .s .cursor)) (sym (c .before .before .sight2 .given .1))
+
+pub told-seek-spec : {M : Type 1} → statement M
+told-seek-spec =
+    tie.close
+    (tie.spec
+    enum-known-sight
+    enum-told
+    enum-known-sight-2
+    seek-refused-requires
+    returns
+    returns-2
+    returns-3)

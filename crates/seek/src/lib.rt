@@ -1,0 +1,90 @@
+// The quick calls: they test the frames and every place they follow, not the whole index.
+use index::SegmentNo;
+use index::frame::IndexFrame;
+use index::frame::index_frame;
+use number::big8;
+use refusal::Refusal;
+use seeking::seek_from;
+use tray::Place;
+use tray::frame::TrayFrame;
+use tray::frame::tray_frame;
+use walk::SeekAnswer;
+use walk::Seeks;
+use walk::begin::start_at;
+use walk::cursor::Cursor;
+use walk::cursor::Sight;
+use walk::cursor::Sought;
+ghost use mathlib.Core.Path.{_≡_};
+ghost use Rattle.tray.specs.Frame.{Opened};
+ghost use Rattle.index.specs.Layout.Code.{Laid};
+ghost use Rattle.walk.specs.Answers.{seekAnswer, seekFramed, toldSeek, refusedSeek};
+
+// A refused seek.
+fn seek_refused(r: Refusal) -> Seeks
+    ensures { λ s. ⌜ s ≡ refusedSeek r ⌝ }
+{
+    Seeks {
+        answer: SeekAnswer::Refused(r),
+        cursor: Cursor {
+            segment: SegmentNo(0),
+            selector: 0,
+            places: [Place(0); 63],
+        },
+    }
+}
+
+// What a walk came to, as seek tells it, for an index of n segments.
+fn told_seek(s: Sought, n: u32) -> Seeks
+    ensures { λ r. ⌜ r ≡ toldSeek n s ⌝ }
+{
+    let sight = s.sight;
+    match sight {
+        Sight::Found(run, place) => {
+            let cursor = s.cursor;
+            Seeks {
+                answer: SeekAnswer::Found(run, place),
+                cursor,
+            }
+        }
+        Sight::End => Seeks {
+            answer: SeekAnswer::End,
+            cursor: Cursor {
+                segment: SegmentNo(n),
+                selector: 0,
+                places: [Place(0); 63],
+            },
+        },
+        Sight::Lost(g, s) => seek_refused(Refusal::Lost(g, s)),
+    }
+}
+
+// Seek where both frames fit.
+fn seek_framed(t: &[u8], x: &[u8], f: TrayFrame, d: u8, n: u32, key: u64) -> Seeks
+    requires { ⌜ Opened (now t) f ⌝ }
+    requires { ⌜ Laid (now t) (now x) d n ⌝ }
+    ensures { λ r. ⌜ r ≡ seekFramed (now (t .entry)) (now (x .entry)) key ⌝ }
+{
+    let h = f.runs;
+    let counts = f.counts;
+    let starts = f.starts;
+    let g = start_at(x, h, d, n, key);
+    told_seek(seek_from(t, x, h, d, n, &counts, &starts, g, key), n)
+}
+
+// Seek: the first record at or above a key, or the end; refusals 1, 4, 10.
+pub fn seek(t: &[u8], x: &[u8], key: &[u8; 8]) -> Seeks
+    ensures { λ r. ⌜ r ≡ seekAnswer (now (t .entry)) (now (x .entry)) (now (key .entry)) ⌝ }
+{
+    let f = tray_frame(t);
+    if f.fits {
+        match index_frame(x, f.runs) {
+            IndexFrame::Fits(d, n) => {
+                return seek_framed(t, x, f, d, n, big8(key, 0));
+            }
+            IndexFrame::Wrong => {
+                return seek_refused(Refusal::IndexFrame);
+            }
+        }
+    }
+    seek_refused(Refusal::TrayFrame)
+}

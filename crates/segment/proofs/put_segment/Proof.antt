@@ -1,0 +1,92 @@
+-- `segment::put_segment` meets its contract: one write right behind the other. Assumes nothing.
+use Rattle.records.specs.Code.Writes.{segmented}
+use Rattle.heads.specs.Heads.Leads.Next.{least-key}
+use native.Mathlib.Omega.{arith}
+use borrow.Author.Needs.{needs}
+use Rattle.segment.proofs.put_segment.Statement.{statement}
+use Rattle.segment.proofs.put_segment.Tie as tie
+use Rattle.segment.proofs.put_segment.Reads as reads
+use Rattle.segment.proofs.put_segment.Lts as lts
+use Rattle.taking.proofs.put_keys.Reads as put-keys-reads
+use Rattle.segment.proofs.put_offsets.Reads as put-offsets-reads
+use Rattle.segment.proofs.put_placeholders.Reads as put-placeholders-reads
+use Rattle.heads.proofs.leader.Reads as leader-reads
+use Rattle.number.proofs.put8.Reads as put8-reads
+use Rattle.number.proofs.wide_size.Reads as wide-size-reads
+
+leader-requires : tie.Need-leader-requires
+leader-requires c κs = search needs
+
+put8-requires : tie.Need-put8-requires
+put8-requires c κs = search needs
+
+put-offsets-requires : tie.Need-put-offsets-requires
+put-offsets-requires c κs = search needs
+
+wide-size-requires : tie.Need-wide-size-requires
+wide-size-requires c κs = search needs
+
+mul-from : tie.Need-mul-from
+mul-from c = search needs
+
+add-from : tie.Need-add-from
+add-from c = search needs
+
+wide-size-requires-2 : tie.Need-wide-size-requires-2
+wide-size-requires-2 c κs = search needs
+
+add-to : tie.Need-add-to
+add-to c = search needs
+
+put-keys-requires : tie.Need-put-keys-requires
+put-keys-requires c κs = (c .before .before .before .before .before .before .before .before .before .before .before .before .before .before .before .before .before .before .before .before .before .before .before .before .before .before .before .before .before .pre .0, (c .before .before .before .before .before .before .before .before .before .before .before .before .before .before .before .before .before .before .before .before .before .before .before .before .before .before .before .before .before .pre .1 .0, omega arith, omega (arith, c .before .before .before .before .before .before .before .before .before .before .before .before .before .before .before .before .before .before .before .before .before .before .before .before .before .before .before .before .before .pre .1, c .before .before .before .before .before .before .before .before .before .before .before .before .before .before .before .put8 .kept, c .before .before .before .before .before .before .before .before .before .before .put-offsets .kept, c .before .before .before .before .before .before .before .wide-size .ensures, c .before .before .before .before .before .before .wide-size2 .ensures)))
+
+put-placeholders-requires : tie.Need-put-placeholders-requires
+put-placeholders-requires c κs = (c .before .before .before .before .before .before .before .before .before .before .before .before .before .put-keys .ensures .1 .1, omega (arith, c .before .before .before .before .before .before .before .before .before .before .before .before .before .before .before .before .before .before .before .before .before .before .before .before .before .before .before .before .before .before .before .before .before .before .before .before .before .before .before .before .before .before .before .pre .1, c .before .before .before .before .before .before .before .before .before .before .before .before .before .before .before .before .before .before .before .before .before .before .before .before .before .before .before .before .before .put8 .kept, c .before .before .before .before .before .before .before .before .before .before .before .before .before .before .before .before .before .before .before .before .before .before .before .before .put-offsets .kept, c .before .before .before .before .before .before .before .before .before .before .before .before .before .put-keys .kept, c .before .before .before .before .before .before .before .before .before .before .before .before .before .before .before .before .before .before .before .before .before .wide-size .ensures, c .before .before .before .before .before .before .before .before .before .before .before .before .before .before .before .before .before .before .before .before .wide-size2 .ensures))
+
+sub-result : tie.Need-sub-result
+sub-result c = search needs
+
+same-length : tie.Need-same-length
+same-length c = search needs
+
+same-length-2 : tie.Need-same-length-2
+same-length-2 c = search needs
+
+same-length-3 : tie.Need-same-length-3
+same-length-3 c = search needs
+
+same-length-4 : tie.Need-same-length-4
+same-length-4 c = search needs
+
+same-length-5 : tie.Need-same-length-5
+same-length-5 c = search needs
+
+same-length-6 : tie.Need-same-length-6
+same-length-6 c = search needs
+
+returns : tie.Need-returns
+returns c = segmented (least-key (c .before .before .before .before .before .before .before .before .before .before .before .before .before .before .before .before .before .before .before .before .before .before .before .before .before .before .before .before .before .before .before .before .before .before .before .before .before .before .before .before .before .before .before .before .before .before .pre .0) (c .before .before .before .before .before .before .before .before .before .before .before .before .before .before .before .before .before .before .before .before .before .before .before .before .before .before .before .before .before .before .before .before .before .before .before .before .before .before .before .before .before .before .before .before .before .before .pre .1 .0) (c .before .before .before .before .before .before .before .before .before .before .before .before .before .before .before .before .before .before .before .before .before .before .before .before .before .before .before .before .before .before .before .before .before .before .leader .ensures)) (c .before .before .before .before .before .before .before .before .before .before .before .before .before .before .before .before .before .before .before .before .before .before .before .before .before .before .before .before .before .before .before .before .put8 .ensures) (c .before .before .before .before .before .before .before .before .before .before .before .before .before .before .before .before .before .before .before .before .before .before .before .before .before .before .before .put-offsets .ensures) (omega arith) (omega arith) (c .before .before .before .before .before .before .before .before .before .before .before .before .before .before .before .before .put-keys .ensures .0) (c .before .before .before .before .before .before .before .before .before .before .before .before .before .before .before .before .put-keys .ensures .1 .0) (c .before .before .before .before .before .before .before .before .before .before .before .before .before .before .before .before .put-keys .ensures .1 .1) (c .before .before .put-placeholders .ensures)
+
+pub put-segment-spec : {M : Type 1} → statement M
+put-segment-spec =
+    tie.close
+    (tie.spec
+    leader-requires
+    put8-requires
+    put-offsets-requires
+    wide-size-requires
+    mul-from
+    add-from
+    wide-size-requires-2
+    add-to
+    put-keys-requires
+    put-placeholders-requires
+    sub-result
+    same-length
+    same-length-2
+    same-length-3
+    same-length-4
+    same-length-5
+    same-length-6
+    returns)

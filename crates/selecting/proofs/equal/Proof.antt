@@ -1,0 +1,13 @@
+-- `selecting::equal` meets its contract: the test that was taken decides. Assumes nothing.
+use borrow.Author.Tests.{eq-eqb, ne-eqb}
+use Rattle.selecting.proofs.equal.Statement.{statement}
+use Rattle.selecting.proofs.equal.Tie as tie
+
+returns : tie.Need-returns
+returns c = simp (eq-eqb _ _ (c .if1 .taken))
+
+returns-2 : tie.Need-returns-2
+returns-2 c = simp (ne-eqb _ _ (c .if1 .left))
+
+pub equal-spec : {M : Type 1} → statement M
+equal-spec = tie.close (tie.spec returns returns-2)

@@ -1,0 +1,66 @@
+-- `standing::place_numbers` meets its contract. Assumes nothing.
+use Prim.Native.Nat.{_-_}
+use Rattle.standing.specs.Standing.{Copying, copy-none, copy-more, copy-end}
+use native.Mathlib.Omega.{arith}
+use Rattle.standing.proofs.place_numbers.Statement.{statement}
+use Rattle.standing.proofs.place_numbers.Tie as tie
+use Rattle.standing.proofs.place_numbers.Reads as reads
+use Rattle.standing.proofs.place_numbers.Lts as lts
+
+abbrev Inv-loop : tie.InvT-loop
+Inv-loop places ps₀ i₀ ps i = Copying places ps i
+
+abbrev μ-loop : tie.MeasureT-loop
+μ-loop places ps₀ i₀ ps i = 63 - i
+
+-- src/standing.rt:31:5
+loop-holds : tie.Need-loop-holds Inv-loop μ-loop
+loop-holds c = copy-none _
+
+-- src/standing.rt:32:17
+mul-p : tie.Need-mul-p Inv-loop μ-loop
+mul-p c = omega arith
+
+-- src/standing.rt:32:17
+array-copy-out-p : tie.Need-array-copy-out-p Inv-loop μ-loop
+array-copy-out-p c = omega arith
+
+-- src/standing.rt:33:9
+mul-ps : tie.Need-mul-ps Inv-loop μ-loop
+mul-ps c = omega arith
+
+-- src/standing.rt:33:9
+array-write-ps : tie.Need-array-write-ps Inv-loop μ-loop
+array-write-ps c = omega (arith, c .before .before .loop .inv .room)
+
+-- src/standing.rt:34:9
+add-i : tie.Need-add-i Inv-loop μ-loop
+add-i c = omega arith
+
+-- src/standing.rt:31:5
+loop-less : tie.Need-loop-less Inv-loop μ-loop
+loop-less c = omega arith
+
+-- src/standing.rt:31:5
+loop-again : tie.Need-loop-again Inv-loop μ-loop
+loop-again c = copy-more (c .before .before .loop .inv) (c .before .loop-test .taken)
+
+-- src/standing.rt:26:1
+returns : tie.Need-returns Inv-loop μ-loop
+returns c = copy-end (c .before .loop .inv) (c .loop-test .left) (c .before .before .good .0 .1 .0 .1)
+
+pub place-numbers-spec : {M : Type 1} → statement M
+place-numbers-spec =
+    tie.close
+    (tie.spec
+    Inv-loop
+    μ-loop
+    loop-holds
+    mul-p
+    array-copy-out-p
+    mul-ps
+    array-write-ps
+    add-i
+    loop-less
+    loop-again
+    returns)

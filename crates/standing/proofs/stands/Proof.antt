@@ -1,0 +1,74 @@
+-- `standing::stands` meets its contract. Assumes nothing.
+use Rattle.standing.specs.Standing.{segment-inside, stands-told, stands-off}
+use mathlib.Core.Path.{sym}
+use native.Mathlib.Omega.{arith}
+use borrow.Author.Needs.{needs}
+use Rattle.standing.proofs.stands.Statement.{statement}
+use Rattle.standing.proofs.stands.Tie as tie
+use Rattle.standing.proofs.stands.Reads as reads
+use Rattle.standing.proofs.stands.Lts as lts
+use Rattle.index.proofs.frame.segment_at.Reads as segment-at-reads
+use Rattle.standing.proofs.none_from.Reads as none-from-reads
+use Rattle.standing.proofs.places_hold.Reads as places-hold-reads
+use Rattle.standing.proofs.tally.Reads as tally-reads
+use Rattle.number.proofs.wide_size.Reads as wide-size-reads
+
+-- src/standing.rt:103:9
+segment-at-requires : tie.Need-segment-at-requires
+segment-at-requires c κs = search needs
+
+-- src/standing.rt:104:9
+wide-size-requires : tie.Need-wide-size-requires
+wide-size-requires c κs = search needs
+
+-- src/standing.rt:105:25
+add-tally : tie.Need-add-tally
+add-tally c = omega (arith, segment-inside (c .before .before .before .pre .0) (c .before .before .before .pre .1 .1) (c .before .segment-at .ensures), c .wide-size .ensures)
+
+-- src/standing.rt:105:34
+mul-tally : tie.Need-mul-tally
+mul-tally c = omega (arith, c .wide-size .ensures)
+
+-- src/standing.rt:105:25
+add-tally-2 : tie.Need-add-tally-2
+add-tally-2 c = omega (arith, segment-inside (c .before .before .before .pre .0) (c .before .before .before .pre .1 .1) (c .before .segment-at .ensures), c .wide-size .ensures)
+
+-- src/standing.rt:105:16
+tally-requires : tie.Need-tally-requires
+tally-requires c κs = omega (arith, segment-inside (c .before .before .before .pre .0) (c .before .before .before .pre .1 .1) (c .before .segment-at .ensures), c .wide-size .ensures)
+
+-- src/standing.rt:106:30
+slice-aggregate-places-hold : tie.Need-slice-aggregate-places-hold
+slice-aggregate-places-hold c = sym (c .before .tally .ensures .room)
+
+-- src/standing.rt:106:8
+places-hold-requires : tie.Need-places-hold-requires
+places-hold-requires c κs = (omega (arith, segment-inside (c .before .before .before .before .before .pre .0) (c .before .before .before .before .before .pre .1 .1) (c .before .before .before .segment-at .ensures)), c .before .before .before .before .before .pre .1 .0, c .before .tally .ensures .room)
+
+-- src/standing.rt:107:9
+none-from-requires : tie.Need-none-from-requires
+none-from-requires c κs = omega (arith, c .before .before .before .before .wide-size .ensures)
+
+-- src/standing.rt:107:9
+returns : tie.Need-returns
+returns c = stands-told (c .before .before .before .before .before .before .before .before .pre .0) (c .before .before .before .before .before .before .before .before .pre .1 .0) _ _ _ (c .before .before .before .before .before .before .segment-at .ensures) (omega (arith, c .before .before .before .before .before .wide-size .ensures)) (c .before .before .before .before .tally .ensures) (c .before .before .places-hold .ensures) (c .before .if1 .taken) (c .before .before .before .before .before .wide-size .ensures) (c .none-from .ensures)
+
+-- src/standing.rt:98:1
+returns-2 : tie.Need-returns-2
+returns-2 c = stands-off (c .before .before .before .before .before .before .before .pre .0) (c .before .before .before .before .before .before .before .pre .1 .0) _ _ _ (c .before .before .before .before .before .segment-at .ensures) (omega (arith, c .before .before .before .before .wide-size .ensures)) (c .before .before .before .tally .ensures) (c .before .places-hold .ensures) (c .if1 .left)
+
+pub stands-spec : {M : Type 1} → statement M
+stands-spec =
+    tie.close
+    (tie.spec
+    segment-at-requires
+    wide-size-requires
+    add-tally
+    mul-tally
+    add-tally-2
+    tally-requires
+    slice-aggregate-places-hold
+    places-hold-requires
+    none-from-requires
+    returns
+    returns-2)

@@ -1,0 +1,121 @@
+-- `taking::put_records` meets its contract. Invariant: records have been written as far as a place. Measure: the room left.
+-- Assumes nothing.
+use Prim.Native.Nat.{_-_}
+use Rattle.records.specs.Code.Records.{Putting, putting-none, putting-more, putting-end, old-low}
+use Rattle.heads.specs.Heads.Leads.{Heading}
+use Rattle.heads.specs.Heads.Leads.Next.{next-run, next-none}
+use native.Mathlib.Omega.{arith}
+use borrow.Author.Needs.{needs}
+use Rattle.taking.proofs.put_records.Statement.{statement}
+use Rattle.taking.proofs.put_records.Tie as tie
+use Rattle.taking.proofs.put_records.Reads as reads
+use Rattle.taking.proofs.put_records.Lts as lts
+use Rattle.records.proofs.old_mark.Reads as old-mark-reads
+use Rattle.taking.proofs.take_record.Reads as take-record-reads
+use Rattle.heads.proofs.choose.Reads as choose-reads
+use Rattle.heads.proofs.leader.Reads as leader-reads
+
+abbrev Inv-loop : tie.InvT-loop
+Inv-loop t h counts starts seg₀ from to first places₀ keys₀ nexts₀ tops₀ firsts₀ at₀ last₀ seg places keys nexts tops firsts at last = Heading t counts starts places keys nexts tops firsts × Putting t h places₀ seg₀ from first to places seg at last
+
+abbrev μ-loop : tie.MeasureT-loop
+μ-loop t h counts starts seg₀ from to first places₀ keys₀ nexts₀ tops₀ firsts₀ at₀ last₀ seg places keys nexts tops firsts at last = to - at
+
+loop-holds : tie.Need-loop-holds Inv-loop μ-loop
+loop-holds c = (c .before .before .before .before .before .before .before .before .before .pre .0, putting-none (c .before .before .before .before .before .before .before .before .before .pre .1 .1))
+
+leader-requires : tie.Need-leader-requires Inv-loop μ-loop
+leader-requires c κs = (c .before .before .before .loop .inv .0 .leading .room-tops, c .before .before .before .loop .inv .0 .leading .room-firsts, omega (arith, c .before .before .before .before .before .before .before .before .before .before .before .before .before .pre .0 .caching .reading .few, c .before .before .before .before .before .before .before .before .before .before .before .before .before .pre .1))
+
+choose-requires : tie.Need-choose-requires Inv-loop μ-loop
+choose-requires c κs = (c .before .before .before .before .before .loop .inv .0 .caching .reading .room-counts, c .before .before .before .before .before .loop .inv .0 .caching .reading .room-places, omega (arith, c .before .before .before .before .before .before .before .before .before .before .before .before .before .before .before .pre .0 .caching .reading .few, c .before .before .before .before .before .before .before .before .before .before .before .before .before .before .before .pre .1))
+
+same-length : tie.Need-same-length Inv-loop μ-loop
+same-length c = omega (arith, c .before .before .before .before .before .before .before .loop .inv .1 .room)
+
+same-length-2 : tie.Need-same-length-2 Inv-loop μ-loop
+same-length-2 c = omega (arith, c .before .before .before .before .before .before .before .loop .inv .0 .caching .reading, c .before .before .before .before .before .before .before .before .before .before .before .before .before .before .before .before .before .pre .0 .caching .reading)
+
+same-length-3 : tie.Need-same-length-3 Inv-loop μ-loop
+same-length-3 c = omega (arith, c .before .before .before .before .before .before .before .loop .inv .0 .caching .padded, c .before .before .before .before .before .before .before .before .before .before .before .before .before .before .before .before .before .pre .0 .caching .padded)
+
+same-length-4 : tie.Need-same-length-4 Inv-loop μ-loop
+same-length-4 c = omega (arith, c .before .before .before .before .before .before .before .loop .inv .0 .nexts-are, c .before .before .before .before .before .before .before .before .before .before .before .before .before .before .before .before .before .pre .0 .nexts-are)
+
+same-length-5 : tie.Need-same-length-5 Inv-loop μ-loop
+same-length-5 c = omega (arith, c .before .before .before .before .before .before .before .loop .inv .0 .leading, c .before .before .before .before .before .before .before .before .before .before .before .before .before .before .before .before .before .pre .0 .leading)
+
+same-length-6 : tie.Need-same-length-6 Inv-loop μ-loop
+same-length-6 c = omega (arith, c .before .before .before .before .before .before .before .loop .inv .0 .leading, c .before .before .before .before .before .before .before .before .before .before .before .before .before .before .before .before .before .pre .0 .leading)
+
+returns : tie.Need-returns Inv-loop μ-loop
+returns c = (putting-end (c .before .before .before .before .before .before .before .loop .inv .1) (λ _. next-none (c .before .before .before .before .before .before .before .loop .inv .0) (c .before .before .before .before .before .before .before .before .before .before .before .before .before .before .before .before .before .pre .1 .0) (c .before .before .before .leader .ensures) (c .before .choose .ensures) (c .if1 .taken)), c .before .before .before .before .before .before .before .loop .inv .0)
+
+old-mark-requires : tie.Need-old-mark-requires Inv-loop μ-loop
+old-mark-requires c κs = search needs
+
+take-record-requires : tie.Need-take-record-requires Inv-loop μ-loop
+take-record-requires c κs = let n = next-run (c .before .before .before .before .before .before .before .before .before .before .before .before .before .loop .inv .0) (c .before .before .before .before .before .before .before .before .before .before .before .before .before .before .before .before .before .before .before .before .before .before .before .pre .1 .0) (c .before .before .before .before .before .before .before .before .before .leader .ensures) (c .before .before .before .before .before .before .before .choose .ensures) (c .before .before .before .before .before .before .if1 .left) in (c .before .before .before .before .before .before .before .before .before .before .before .before .before .loop .inv .0, (omega (arith, c .before .before .before .before .before .before .before .before .before .before .before .before .before .before .before .before .before .before .before .before .before .before .before .pre .1 .0, c .before .before .before .before .before .before .if1 .left), n .has, old-low _ _ (c .before .before .before .before .before .old-mark .ensures)))
+
+slice-write-seg : tie.Need-slice-write-seg Inv-loop μ-loop
+slice-write-seg c = omega (arith, c .before .before .before .before .before .before .before .before .before .before .before .before .before .before .before .before .before .before .before .before .before .before .before .before .loop .inv .1 .room, c .before .before .before .before .before .before .before .before .before .before .before .before .before .before .before .before .before .before .before .before .before .before .before .before .before .before .before .before .before .before .before .before .before .before .pre .1, c .before .before .before .before .before .before .before .before .before .before .before .before .before .before .before .before .before .before .before .before .before .before .before .loop-test .taken)
+
+add-at : tie.Need-add-at Inv-loop μ-loop
+add-at c = omega (arith, c .before .before .before .before .before .before .before .before .before .before .before .before .before .before .before .before .before .before .before .before .before .before .before .loop-test .taken, c .before .before .before .before .before .before .before .before .before .before .before .before .before .before .before .before .before .before .before .before .before .before .before .before .before .before .before .before .before .before .before .before .before .before .good)
+
+loop-less : tie.Need-loop-less Inv-loop μ-loop
+loop-less c = omega (arith, c .before .before .before .before .before .before .before .before .before .before .before .before .before .before .before .before .before .before .before .before .before .before .before .loop-test .taken)
+
+loop-again : tie.Need-loop-again Inv-loop μ-loop
+loop-again c = (c .before .before .before .before .before .before .before .before .before .before .take-record .ensures .1 .1, putting-more (c .before .before .before .before .before .before .before .before .before .before .before .before .before .before .before .before .before .before .before .before .before .before .before .before .loop .inv .1) (c .before .before .before .before .before .before .before .before .before .before .before .before .before .before .before .before .before .before .before .before .before .before .before .loop-test .taken) (c .before .before .before .before .before .before .before .before .before .before .before .before .before .before .before .before .before .before .before .before .before .before .before .before .before .before .before .before .before .before .before .before .before .before .pre .1 .2) (next-run (c .before .before .before .before .before .before .before .before .before .before .before .before .before .before .before .before .before .before .before .before .before .before .before .before .loop .inv .0) (c .before .before .before .before .before .before .before .before .before .before .before .before .before .before .before .before .before .before .before .before .before .before .before .before .before .before .before .before .before .before .before .before .before .before .pre .1 .0) (c .before .before .before .before .before .before .before .before .before .before .before .before .before .before .before .before .before .before .before .before .leader .ensures) (c .before .before .before .before .before .before .before .before .before .before .before .before .before .before .before .before .before .before .choose .ensures) (c .before .before .before .before .before .before .before .before .before .before .before .before .before .before .before .before .before .if1 .left)) (c .before .before .before .before .before .before .before .before .before .before .before .before .before .before .before .before .old-mark .ensures) (c .before .before .before .before .before .before .before .before .before .before .take-record .ensures .0) (c .before .before .before .before .before .before .before .before .before .before .take-record .ensures .1 .0))
+
+same-length-7 : tie.Need-same-length-7 Inv-loop μ-loop
+same-length-7 c = omega (arith, c .before .loop .inv .1 .room)
+
+same-length-8 : tie.Need-same-length-8 Inv-loop μ-loop
+same-length-8 c = omega (arith, c .before .loop .inv .0 .caching .reading, c .before .before .before .before .before .before .before .before .before .before .before .pre .0 .caching .reading)
+
+same-length-9 : tie.Need-same-length-9 Inv-loop μ-loop
+same-length-9 c = omega (arith, c .before .loop .inv .0 .caching .padded, c .before .before .before .before .before .before .before .before .before .before .before .pre .0 .caching .padded)
+
+same-length-10 : tie.Need-same-length-10 Inv-loop μ-loop
+same-length-10 c = omega (arith, c .before .loop .inv .0 .nexts-are, c .before .before .before .before .before .before .before .before .before .before .before .pre .0 .nexts-are)
+
+same-length-11 : tie.Need-same-length-11 Inv-loop μ-loop
+same-length-11 c = omega (arith, c .before .loop .inv .0 .leading, c .before .before .before .before .before .before .before .before .before .before .before .pre .0 .leading)
+
+same-length-12 : tie.Need-same-length-12 Inv-loop μ-loop
+same-length-12 c = omega (arith, c .before .loop .inv .0 .leading, c .before .before .before .before .before .before .before .before .before .before .before .pre .0 .leading)
+
+returns-2 : tie.Need-returns-2 Inv-loop μ-loop
+returns-2 c = (putting-end (c .before .loop .inv .1) (λ l. absurd (omega (arith, c .loop-test .left))), c .before .loop .inv .0)
+
+pub put-records-spec : {M : Type 1} → statement M
+put-records-spec =
+    tie.close
+    (tie.spec
+    Inv-loop
+    μ-loop
+    loop-holds
+    leader-requires
+    choose-requires
+    same-length
+    same-length-2
+    same-length-3
+    same-length-4
+    same-length-5
+    same-length-6
+    returns
+    old-mark-requires
+    take-record-requires
+    slice-write-seg
+    add-at
+    loop-less
+    loop-again
+    same-length-7
+    same-length-8
+    same-length-9
+    same-length-10
+    same-length-11
+    same-length-12
+    returns-2)
