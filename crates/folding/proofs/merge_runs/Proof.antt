@@ -1,6 +1,7 @@
 -- `folding::merge_runs` meets its contract: with the runs outside a to b at their ends, the merge of what is left is the merge of these runs.
 -- Assumes nothing.
-use Rattle.keeping.specs.Folding.Moves.{padded-none, folding-reading, folding-merge, folding-ended, folding-noted}
+use Rattle.heads.specs.Heads.Laws.{padded-none}
+use Rattle.keeping.specs.Folding.Moves.{folding-reading, folding-merge, folding-ended, folding-noted}
 use mathlib.Core.Path.{refl}
 use native.Mathlib.Omega.{arith}
 use borrow.Author.Needs.{needs}

@@ -3,13 +3,14 @@
 --     next-is                                     the next key of a run, from the run's own bytes
 --     Found, found-none, found-more, found-all    the next keys, run by run
 --     RunCut, run-cut                             a run cut out of the tray, with its count
+--     padded-none                                 before the first key
 -- Assumes nothing.
 use mathlib.Core.Path.{_≡_, sym, ap, _∙_, subst}
 use Prim.Native.Nat.{ℕ, _+_, _-_, _*_, _≤_, _<_}
 use native.Mathlib.Numerals.{add-one}
 use native.Mathlib.Omega.{arith}
 use mathlib.Core.List.{List}
-use lib.ListN.{length, getD, take, drop, set, length-set}
+use lib.ListN.{length, getD, take, drop, set, length-set, replicate, length-replicate, getD-replicate}
 use lib.Seq.{getD-set-same, getD-set-other}
 use borrow.Author.Tests.{lt-ltb, le-ltb}
 use Rattle.tray.specs.Frame.{runCount, countOf, runBytes}
@@ -83,3 +84,7 @@ run-cut {t} {counts} {starts} {r = r} {i} g l e =
     let n : getD counts i 0 ≡ countOf t r = ap (λ (j : ℕ). getD counts j 0) e ∙ g .counts-are r l in
     let low : countOf t r ≤ 4096 = k .few in
     record { start = k .start; end = k .end; few = omega arith; records = n; whole = k .whole ∙ ap (λ (j : ℕ). 25 * j) (sym n); bytes = k .bytes }
+
+-- no key is kept yet
+pub padded-none : Padded (replicate 64 highest) 0
+padded-none = record { few = omega arith; room = length-replicate 64 highest; past = λ i l k. getD-replicate 64 i highest 0 k }

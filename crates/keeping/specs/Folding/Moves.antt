@@ -1,13 +1,13 @@
 -- What the start of the merge needs: each law is a way out of a function, or a turn of its loop.
 --     skips-none, skips-more, skips-all             runs read to their ends
---     padded-none, folding-reading, folding-merge, folding-ended, folding-noted     what the merge starts from
+--     folding-reading, folding-merge, folding-ended, folding-noted     what the merge starts from
 -- Assumes nothing.
 use mathlib.Core.Path.{_≡_, refl, _∙_, subst, subst₂}
 use mathlib.Core.Logic.{⊎-elim}
 use Prim.Native.Nat.{ℕ, zero, suc, _+_, _≤_, _<_}
 use native.Mathlib.Omega.{arith}
 use mathlib.Core.List.{List}
-use lib.ListN.{length, getD, set, length-set, replicate, length-replicate, getD-replicate}
+use lib.ListN.{length, getD, set, length-set, replicate}
 use lib.Seq.{getD-set-same, getD-set-other}
 use Rattle.theory.specs.Tests.{order}
 use Rattle.theory.specs.Records.{Record}
@@ -15,7 +15,6 @@ use Rattle.tray.specs.Frame.{runCount, countOf}
 use Rattle.tray.specs.declared.frame.TrayFrame.{TrayFrame}
 use Rattle.tray.specs.Meaning.{runsOf}
 use Rattle.index.specs.Scan.Code.{Reading}
-use Rattle.heads.specs.Heads.{highest, Padded}
 use Rattle.keeping.specs.Folding.{mergedRun, mergeLeft, Ended, Skips, Noted, Folding}
 use Rattle.keeping.specs.Folding.Start.{Begins, merge-begins}
 
@@ -51,10 +50,6 @@ begins {t} {counts} {a = a} {b} {h} zeros are e l v w =
           (λ p. let z = w .below r (omega arith) ∙ v .read r (omega arith) p ∙ are r k in omega arith)
           (λ p. let z = w .read r (omega arith) (omega arith) ∙ are r k in omega arith) d;
     }
-
--- no key is kept
-pub padded-none : Padded (replicate 64 highest) 0
-padded-none = record { few = omega arith; room = length-replicate 64 highest; past = λ i l k. getD-replicate 64 i highest 0 k }
 
 -- zeros
 zeros : (n r : ℕ) → _≡_ {A = ℕ} (getD (replicate n 0) r 0) 0

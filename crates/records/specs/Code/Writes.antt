@@ -1,5 +1,5 @@
 -- What the code of a segment needs of what it writes: each law is a way out of a function, or a turn of its loop.
---     put-whole, put-before     writing everything, and what stands before
+--     put-before                                   what stands before something that was written
 --     offsets-end, offsets-next                    the offsets, run by run
 --     holders-end, holders-next                    the placeholders, byte by byte
 -- Assumes nothing.
@@ -8,8 +8,8 @@ use Prim.Native.Nat.{ℕ, suc, _+_, _-_, _*_, _≤_, _<_}
 use native.Mathlib.Nat.{zero-add, sub-zero}
 use native.Mathlib.Numerals.{add-one}
 use native.Mathlib.Omega.{arith}
-use mathlib.Core.List.{List, _++_, append-nil, append-assoc}
-use lib.ListN.{length, getD, take, drop, set, replicate, length-append, drop-of-length-le}
+use mathlib.Core.List.{List, _++_, append-assoc}
+use lib.ListN.{length, getD, take, drop, set, replicate, length-append}
 use lib.Seq.{drop-at, length-take-le}
 use Rattle.number.specs.Big.{bytesOf, put}
 use Rattle.number.specs.Big.Laws.{length-bytesOf}
@@ -18,11 +18,6 @@ use Rattle.theory.specs.Pack.{joined}
 use Rattle.theory.specs.Listed.{listed}
 use Rattle.heads.specs.Heads.Leads.{LeastKey}
 use Rattle.records.specs.Code.{offsetsFrom, otherKey, Fills, Segmented}
-
--- everything
-pub put-whole : (s ys : List ℕ) → length s ≡ length ys → put s 0 ys ≡ ys
-unfolding put
-put-whole s ys e = rw (zero-add, drop-of-length-le s {i = length ys} (omega arith), append-nil)
 
 -- what stands before something that was written
 pub put-before : (s : List ℕ) (p : ℕ) (xs ys : List ℕ) → p ≤ length s → length xs ≡ p → put (put s p ys) 0 xs ≡ put s 0 (xs ++ ys)

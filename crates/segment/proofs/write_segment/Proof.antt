@@ -2,7 +2,7 @@
 use mathlib.Core.Path.{refl}
 use Rattle.records.specs.Code.Only.{only-segment}
 use Rattle.records.specs.Code.Records.{reading-on}
-use Rattle.segment.specs.Code.Loops.{padded-none}
+use Rattle.heads.specs.Heads.Laws.{padded-none}
 use native.Mathlib.Omega.{arith}
 use borrow.Author.Needs.{needs}
 use Rattle.segment.proofs.write_segment.Statement.{statement}

@@ -1,6 +1,6 @@
 -- What the loops over the segments need: each law is a way out of a function, or a turn of its loop.
 --     Merging, merging-none, -low, -less, -more, -end     the segments so far: how many, and what is left
---     sounded-ready, -fits, -reading, padded-none         what the loops start from
+--     sounded-ready, -fits, -reading         what the loops start from
 --     front-long, front-back, lent-long, lent-back        a stretch that is lent and given back
 --     Writing, writing-none, -room, -more, -end           the segments so far, in the output
 -- Assumes nothing.
@@ -10,7 +10,7 @@ use native.Mathlib.Nat.{add-zero, zero-mul}
 use native.Mathlib.Numerals.{add-one}
 use native.Mathlib.Omega.{arith}
 use mathlib.Core.List.{List, [], _∷_, _++_, List·Memᴰ·head}
-use lib.ListN.{length, take, drop, replicate, length-append, length-drop, length-replicate, getD-replicate}
+use lib.ListN.{length, take, drop, replicate, length-append, length-drop}
 use lib.Seq.{drop-drop, length-take-le}
 use Rattle.number.specs.Big.{put, Bytes}
 use Rattle.number.specs.Big.Writes.{put-put, put-nil, length-put}
@@ -33,7 +33,6 @@ use Rattle.built.specs.Build.{itemKey, cuts, segmentBytes, segmentsBytes, index
 use Rattle.built.specs.Build.Laws.{Ready, length-view}
 use Rattle.built.specs.Build.Bytes.{length-segmentBytes}
 use Rattle.built.specs.Build.Theorems.{sound-ready}
-use Rattle.heads.specs.Heads.{highest, Padded}
 use Rattle.records.specs.Code.{Segmented, Sounded}
 use Rattle.records.specs.Code.Merge.{Stand}
 use Rattle.segment.specs.Code.Segments.{Cutting, segment-is}
@@ -113,10 +112,6 @@ module _ {t : List ℕ} {d : ℕ} {f : TrayFrame} {n : ℕ} (s : Sounded t d f n
   sounded-reading l =
       let o = s .opened in
       record { at = o .at; few = o .at .few; room-counts = o .room; room-places = l; counts-are = o .counts }
-
--- no key has been read
-pub padded-none : Padded (replicate 64 highest) 0
-padded-none = record { few = omega arith; room = length-replicate 64 highest; past = λ i l k. getD-replicate 64 i highest 0 k }
 
 -- a front of a list, lent and given back
 pub front-long : (w : ℕ) (s : List ℕ) {k : ℕ} → w ≤ length s → w ≡ k → length (take w s) ≡ k
