@@ -1,4 +1,4 @@
-// Check index.
+// Check index: whether an index follows the rules for its tray (document 01, "The index").
 use index::IndexAnswer;
 use index::SegmentNo;
 use index::frame::IndexFrame;

@@ -1,4 +1,4 @@
-// The quick calls: they test the frames and every place they follow, not the whole index.
+// The call seek: it tests the frames and every place that it follows, not the whole index.
 use index::SegmentNo;
 use index::frame::IndexFrame;
 use index::frame::index_frame;
