@@ -231,9 +231,6 @@ At H 63 much of the time is waiting for memory: a tray of 63 runs of 4,096 recor
 commonly holds, and a merge or a listing reads it at 63 places in turn. The last rows of the table have a tray of 63 runs of 512 records, which
 fits: so they show what is the call's own. The hand-written rules wait as long.
 
-Page over one run through segments of 32 selectors is furthest behind: where it enters a segment the compiled code clears 63 places, reads the one
-that the tray has, and copies all of them twice; the hand-written rules keep one array.
-
 {table}"
     )
 }

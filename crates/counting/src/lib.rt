@@ -5,10 +5,11 @@ use index::SegmentNo;
 use index::frame::segment_at;
 use number::wide_size;
 use points::Stop;
+use standing::place_numbers;
 use tray::Place;
 use tray::run::key_at;
 use walk::cursor::Cursor;
-use walk::cursor::load;
+use walk::cursor::reload;
 ghost use mathlib.Core.Path.{_≡_};
 ghost use mathlib.Core.Bool.{cond};
 ghost use mathlib.Core.List.{[]};
@@ -84,11 +85,25 @@ pub fn count_from(
     let mut held: usize = 0;
     let mut g = from.segment.0;
     let mut s = from.selector;
-    let mut places = from.places;
+    let first = from.places;
+    let mut places = place_numbers(first);
     loop {
         let at = wide_size(s);
         let before = fitting(held, size - at, room);
-        let m = gather(t, x, h, d, n, counts, starts, g, at, places, before, ats);
+        let m = gather(
+            t,
+            x,
+            h,
+            d,
+            n,
+            counts,
+            starts,
+            g,
+            at,
+            &mut places,
+            before,
+            ats,
+        );
         let k = m.count;
         held = first_past(t, ats, before, k, high);
         count += held - before;
@@ -115,7 +130,7 @@ pub fn count_from(
                 held,
             };
         }
-        places = load(x, segment_at(SegmentNo(g), h, d), h);
+        reload(x, segment_at(SegmentNo(g), h, d), h, &mut places);
         s = 0;
     }
 }

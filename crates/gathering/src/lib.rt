@@ -2,7 +2,6 @@
 use index::SegmentNo;
 use index::frame::segment_at;
 use number::wide_size;
-use tray::Place;
 use tray::frame::size16;
 ghost use mathlib.Core.Bool.{cond};
 ghost use mathlib.Core.Path.{_≡_};
@@ -10,7 +9,7 @@ ghost use Prim.Native.Nat.{_+_, _≤_, _<_};
 ghost use lib.ListN.{length};
 ghost use Rattle.tray.specs.Frame.{Starts};
 ghost use Rattle.walk.specs.Reads.{unmarked};
-ghost use Rattle.walk.specs.Code.{Walking};
+ghost use Rattle.walk.specs.Code.{placesOf, Walking};
 ghost use Rattle.gathering.specs.Stops.{GatheredFrom};
 
 // A selector with neither mark as 1, any other as 0: reckoned, since the marks cannot be foretold and so are not branched on.
@@ -27,7 +26,7 @@ pub struct Gathered {
 }
 
 // The unmarked records of segment g from a selector on, to its end or to where the walk is lost: where each stands in the tray, behind so many
-// gathered before.
+// gathered before. The places are numbers that are lent, and moved where they stand, so that none are copied.
 pub fn gather(
     t: &[u8],
     x: &[u8],
@@ -38,18 +37,17 @@ pub fn gather(
     starts: &[usize],
     g: u32,
     from: usize,
-    at: [Place; 63],
+    places: &mut [u16],
     before: usize,
     ats: &mut [usize],
 ) -> Gathered
     requires { ⌜ Walking (now t) (now x) h d n (now counts) ⌝ }
     requires { ⌜ Starts (now t) (now starts) ⌝ }
-    requires { ⌜ (g < n) × (from ≤ d) × (length at ≡ 63) × (d + before ≤ from + length (now ats)) ⌝ }
-    ensures { λ r. ⌜ GatheredFrom (now (t .entry)) (now (x .entry)) d g from at before (now (ats .entry)) (r .count) (r .stop) (now (ats .exit)) ⌝ }
+    requires { ⌜ (g < n) × (from ≤ d) × (length (now places) ≡ 63) × (d + before ≤ from + length (now ats)) ⌝ }
+    ensures { λ r. ⌜ GatheredFrom (now (t .entry)) (now (x .entry)) d g from (placesOf (now (places .entry))) before (now (ats .entry)) (r .count) (r .stop) (now (ats .exit)) ⌝ }
 {
     let first = segment_at(SegmentNo(g), h, d) + 8 + 2 * wide_size(h);
     let size = wide_size(d);
-    let mut places = at;
     let mut k = before;
     let mut s = from;
     while s < size {
@@ -61,12 +59,11 @@ pub fn gather(
         let r = v % 64;
         if r < h {
             let i = wide_size(r);
-            let p = places[i];
-            let q = p.0;
+            let q = places[i];
             if q < counts[i] {
                 ats[k] = starts[i] + 25 * size16(q);
                 k += clear(v);
-                places[i] = Place(q + 1);
+                places[i] = q + 1;
                 s += 1;
                 continue;
             }

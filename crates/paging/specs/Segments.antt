@@ -1,17 +1,19 @@
 -- A page a segment at a time: its records are gathered first and then written, where there is room for them.
 --     page-passes, tour-page       what a page does at a segment's stops
 --     paging-on, paging-lost       behind them
---     BySegments                   the loop over segments
+--     againAt, again-same, again-other     where what is gathered of a segment begins
+--     BySegments, segments-room, again-inside, again-whole     the loop over segments, and what it comes to where there is no room
 -- Assumes nothing.
 use mathlib.Core.Path.{_≡_, sym, ap, ap₂, _∙_, subst}
 use Prim.Native.Nat.{ℕ, suc, _+_, _-_, _*_, _≤_, _<_}
 use native.Mathlib.Nat.{add-zero}
 use native.Mathlib.Omega.{arith}
-use mathlib.Core.Bool.{false}
+use mathlib.Core.Bool.{false, cond}
 use mathlib.Core.List.{List, [], _∷_, map}
 use lib.ListN.{length, take, length-map}
 use lib.Seq.{length-take-le}
-use borrow.Author.Tests.{le-leb}
+use lib.Dec.{eqb}
+use borrow.Author.Tests.{le-leb, eq-eqb, ne-eqb}
 use Rattle.number.specs.Big.{put}
 use Rattle.number.specs.Big.Writes.{length-put}
 use Rattle.theory.specs.Lists.{here, all-tail}
@@ -20,11 +22,15 @@ use Rattle.theory.specs.Rising.{All}
 use Rattle.tray.specs.declared.Place.{Place}
 use Rattle.tray.specs.Frame.{Framed}
 use Rattle.tray.specs.Run.{recordFrom}
-use Rattle.walk.specs.Walk.{Spot, Visit, go, Walked, lost, walkSelectors, walkSegments}
+use Rattle.walk.specs.Walk.{Spot, Visit, go, Walked, lost, walkSelectors, walkSegments, walkFrom}
 use Rattle.walk.specs.Walk.Tours.{after, tourThen}
 use Rattle.walk.specs.Reads.{Written, listedBytes, write, unmarked, pageVisit}
 use Rattle.walk.specs.Reads.Page.{length-listed}
-use Rattle.walk.specs.Code.{numbers}
+use Rattle.index.specs.Layout.{segmentAt}
+use Rattle.walk.specs.declared.cursor.Cursor.{Cursor}
+use Rattle.walk.specs.Code.{numbers, placesOf, numbers-back, length-places, Walking, spotOf}
+use Rattle.walk.specs.Code.Load.{loadedFrom}
+use Rattle.walk.specs.Code.Turns.{here-whole}
 use Rattle.gathering.specs.Stops.{Stop, stopsIn, positionOf, GatheredFrom}
 use Rattle.gathering.specs.Stops.Laws.{seenAt, thenOn, then-lost, then-rest, walk-stops, Right, stops-right}
 use Rattle.points.specs.Steps.{onward}
@@ -119,8 +125,50 @@ module _ {t x : List ℕ} {d n slots g₀ s₀ : ℕ} {places₀ : List Place} {
   pub paging-lost : stop < d → lost g stop (soFar (count + k) after) ≡ onward t x (pageVisit t) d n g₀ s₀ places₀ (soFar count₀ out₀)
   paging-lost l = sym (then-lost rest g stop d (soFar (count + k) after) l) ∙ sym behind ∙ i .here .on .same
 
--- the loop over segments: as in both loops of the page, and what is written is written inside the room
-pub record BySegments (t x : List ℕ) (d n slots g₀ s₀ : ℕ) (places₀ : List Place) (count₀ : ℕ) (out₀ ats : List ℕ) (g s : ℕ) (places : List Place) (count : ℕ) (out : List ℕ) : Type 0 where
-  pub paging : Paging t x d n slots g₀ s₀ places₀ count₀ out₀ g s places count out
+-- where what is gathered of a segment begins: where the page began, or the segment's first selector
+unfoldable pub againAt : ℕ → List ℕ → ℕ → ℕ → ℕ → List ℕ → ℕ → Spot
+againAt h x d g₀ s₀ places₀ g =
+    cond (eqb g g₀) (record { segment = g₀; selector = s₀; places = places₀ }) (record { segment = g; selector = 0; places = loadedFrom h x (segmentAt h d g) })
+
+module _ (h : ℕ) (x : List ℕ) (d g₀ s₀ : ℕ) (places₀ : List ℕ) {g : ℕ} where
+  pub again-same : g ≡ g₀ → _≡_ {A = Spot} (record { segment = g₀; selector = s₀; places = places₀ }) (againAt h x d g₀ s₀ places₀ g)
+  unfolding againAt
+  again-same e = sym (rw (eq-eqb g g₀ e))
+
+  pub again-other : {at : ℕ} {places : List ℕ} → (g ≡ g₀ → ⊥) → at ≡ segmentAt h d g → places ≡ loadedFrom h x at
+      → _≡_ {A = Spot} (record { segment = g; selector = 0; places = places }) (againAt h x d g₀ s₀ places₀ g)
+  unfolding againAt
+  again-other a e p =
+      ap (λ (qs : List ℕ). record { segment = g; selector = 0; places = qs }) (p ∙ ap (loadedFrom h x) e) ∙ sym (rw (ne-eqb g g₀ a))
+
+-- the loop over segments: as in both loops of the page, and what is written is written inside the room; the segment began where it is found again
+pub record BySegments (t x : List ℕ) (h d n slots g₀ s₀ : ℕ) (places₀ : List ℕ) (count₀ : ℕ) (out₀ ats : List ℕ) (g s : ℕ) (places : List ℕ) (count : ℕ) (out : List ℕ) : Type 0 where
+  pub paging : Paging t x d n slots g₀ s₀ (placesOf places₀) count₀ out₀ g s (placesOf places) count out
   pub fits : count ≤ slots
   pub held : length ats ≡ 128
+  pub since : g₀ ≤ g
+  pub again : _≡_ {A = Spot} (record { segment = g; selector = s; places = places }) (againAt h x d g₀ s₀ places₀ g)
+
+-- so the page from where the segment began is the page from here, and answers for the whole
+module _ {t x : List ℕ} {h d n : ℕ} {counts : List ℕ} (w : Walking t x h d n counts) {slots g₀ s₀ : ℕ} {places₀ : List ℕ} {count₀ : ℕ} {out₀ ats : List ℕ}
+    {g s : ℕ} {places : List ℕ} {count : ℕ} {out : List ℕ} (i : BySegments t x h d n slots g₀ s₀ places₀ count₀ out₀ ats g s places count out) where
+  pub segments-room : length places ≡ 63
+  segments-room = sym (length-places places) ∙ i .paging .here .room
+
+  module _ {origin : List ℕ} (o : places₀ ≡ origin) (c : Cursor) (e : spotOf c ≡ againAt h x d g₀ s₀ origin g) where
+    begins : spotOf c ≡ record { segment = g; selector = s; places = places }
+    begins = e ∙ ap (λ (ps : List ℕ). againAt h x d g₀ s₀ ps g) (sym o) ∙ sym (i .again)
+
+    pub again-inside : (c .segment .0 < n) × (c .selector ≤ d)
+    unfolding spotOf
+    again-inside = (
+      omega (arith, ap (λ (q : Spot). q .segment) begins, i .paging .here .on .inside),
+      omega (arith, ap (λ (q : Spot). q .selector) begins, i .paging .here .on .high),
+    )
+
+    pub again-whole : {page : Walked Written (Written × Spot)} → page ≡ walkFrom t x (pageVisit t) (spotOf c) (soFar count out)
+        → page ≡ onward t x (pageVisit t) d n g₀ s₀ (placesOf places₀) (soFar count₀ out₀)
+    again-whole told =
+        told
+        ∙ ap (λ (q : Spot). walkFrom t x (pageVisit t) q (soFar count out)) (begins ∙ ap (λ (ps : List ℕ). record { segment = g; selector = s; places = ps }) (sym (numbers-back places)))
+        ∙ here-whole w (i .paging .here)

@@ -7,18 +7,23 @@ use points::Paged;
 use points::Stop;
 use points::put_all;
 use points::write_point;
+use standing::place_numbers;
 use tray::Place;
 use tray::RunNo;
 use walk::cursor::Cursor;
 use walk::cursor::load;
+use walk::cursor::reload;
 ghost use mathlib.Core.Path.{_≡_};
-ghost use Prim.Native.Nat.{_≤_, _<_};
+ghost use Prim.Native.Nat.{_+_, _*_, _≤_, _<_};
+ghost use lib.ListN.{length};
 ghost use Rattle.tray.specs.Frame.{Starts};
+ghost use Rattle.index.specs.Layout.{segmentAt};
 ghost use Rattle.walk.specs.Walk.{stayed, ended, lost, walkFrom};
 ghost use Rattle.walk.specs.Reads.{pageVisit};
-ghost use Rattle.walk.specs.Code.{Walking, spotOf};
+ghost use Rattle.walk.specs.Code.{numbers, Walking, spotOf};
 ghost use Rattle.points.specs.Page.{soFar, begun, pagedOf, Says};
 ghost use Rattle.points.specs.Steps.{spotAt};
+ghost use Rattle.paging.specs.Segments.{againAt};
 
 // The page stays at a record that is not written.
 fn more(count: usize, g: u32, s: usize, places: [Place; 63]) -> Paged
@@ -138,8 +143,25 @@ fn page_on(
     }
 }
 
+// Where what is gathered of segment g begins: the cursor that the page began with, or the segment's first selector.
+fn again(x: &[u8], h: u8, d: u8, from: Cursor, g: u32) -> Cursor
+    requires { ⌜ (segmentAt h d g + 8 + 2 * h ≤ length (now x)) × (h ≤ 63) ⌝ }
+    ensures { λ c. ⌜ spotOf c ≡ againAt h (now (x .entry)) d (from .segment .0) (from .selector) (numbers (from .places)) g ⌝ }
+{
+    if g == from.segment.0 {
+        return from;
+    }
+    let places = load(x, segment_at(SegmentNo(g), h, d), h);
+    Cursor {
+        segment: SegmentNo(g),
+        selector: 0,
+        places,
+    }
+}
+
 // The page from a cursor on, a segment at a time: a segment's records are gathered first and then written, as long as there is room for them;
-// those of the last segment are written one by one.
+// those of the last segment are written one by one, from where it began. The places are moved where they stand: to copy them at each segment costs
+// more than to find out again where the last one began.
 fn page_segments(
     t: &[u8],
     x: &[u8],
@@ -162,17 +184,27 @@ fn page_segments(
     let mut count: usize = 0;
     let mut g = from.segment.0;
     let mut s = from.selector;
-    let mut places = from.places;
+    let held = from.places;
+    let mut places = place_numbers(held);
     loop {
         let at = wide_size(s);
-        let m = gather(t, x, h, d, n, counts, starts, g, at, places, 0, &mut ats);
+        let m = gather(
+            t,
+            x,
+            h,
+            d,
+            n,
+            counts,
+            starts,
+            g,
+            at,
+            &mut places,
+            0,
+            &mut ats,
+        );
         let k = m.count;
         if room < count + k {
-            let here = Cursor {
-                segment: SegmentNo(g),
-                selector: s,
-                places,
-            };
+            let here = again(x, h, d, from, g);
             return page_on(t, x, h, d, n, counts, starts, here, count, out);
         }
         put_all(t, &ats, k, count, out);
@@ -185,7 +217,7 @@ fn page_segments(
         if n <= g {
             return page_end(count, n);
         }
-        places = load(x, segment_at(SegmentNo(g), h, d), h);
+        reload(x, segment_at(SegmentNo(g), h, d), h, &mut places);
         s = 0;
     }
 }

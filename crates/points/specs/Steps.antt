@@ -1,5 +1,5 @@
 -- The turns of a walk from a cursor on, as a loop over segments with a loop over selectors takes them, whatever the visitor.
---     onward                              the walk from a selector on
+--     onward, onward-same                 the walk from a selector on
 --     here-first, here-inner, here-back   where a loop begins, and what it says once it is left
 --     onward-from                         from a cursor on
 --     here-pass, here-no-run, here-no-place, here-stay, here-go     one selector
@@ -15,7 +15,7 @@ use Rattle.tray.specs.Frame.{runCount}
 use Rattle.index.specs.Layout.{segmentCount}
 use Rattle.walk.specs.declared.cursor.Cursor.{Cursor}
 use Rattle.walk.specs.Walk.{Spot, Visit, stay, go, Walked, stayed, lost, selectorAt, walkSelectors, walkSegments, walkFrom}
-use Rattle.walk.specs.Code.{placed, numbers, raise-numbers, Walking, spotOf, selectors-pass, selectors-lost, selectors-stay, selectors-go}
+use Rattle.walk.specs.Code.{placed, numbers, placesOf, numbers-back, raise-numbers, Walking, spotOf, selectors-pass, selectors-lost, selectors-stay, selectors-go}
 use Rattle.walk.specs.Code.Turns.{Here, named-run, named-yes, named-past}
 
 -- selector s of segment g, with the places as the code has them
@@ -25,6 +25,13 @@ spotAt g s places = record { segment = g; selector = s; places = numbers places 
 -- the walk from selector s of segment g on
 unfoldable pub onward : {S R : Type 0} (t x : List ℕ) (visit : ℕ → Spot → S → Visit S R) (d n g s : ℕ) (places : List Place) (st : S) → Walked S R
 onward t x visit d n g s places st = walkSelectors t x visit (d - s) g s (numbers places) st (walkSegments t x visit (n - (g + 1)) (g + 1))
+
+-- it is the same from places as numbers
+pub onward-same : {S R : Type 0} (t x : List ℕ) (visit : ℕ → Spot → S → Visit S R) (d n g s : ℕ) (ns : List ℕ) (places : List Place) (st : S) → ns ≡ numbers places
+    → onward t x visit d n g s (placesOf ns) st ≡ onward t x visit d n g s places st
+unfolding onward
+onward-same t x visit d n g s ns places st e =
+    ap (λ (ps : List ℕ). walkSelectors t x visit (d - s) g s ps st (walkSegments t x visit (n - (g + 1)) (g + 1))) (numbers-back ns ∙ e)
 
 -- a loop begins
 pub here-first : {S R : Type 0} (t x : List ℕ) (visit : ℕ → Spot → S → Visit S R) {d n g s : ℕ} (places : List Place) (st : S) → g < n → s ≤ d → length places ≡ 63

@@ -1,5 +1,6 @@
 -- What the code of the walk needs of the definitions: how its values stand for them, and what each turn of its loops is.
 --     numbers, getD-numbers, raise-numbers      places as numbers
+--     placesOf, numbers-back, getD-places, set-places     and back
 --     Walking                                   tray and index as the code has them
 --     spotOf, soughtOf                          cursors and answers
 --     Segmenting, segments-end, segments-enter  the loop over segments
@@ -56,6 +57,31 @@ unfolding numbers
 set-numbers [] i n = refl
 set-numbers (p ∷ ps) zero n = refl
 set-numbers (p ∷ ps) (suc i) n = ap (λ l. p .0 ∷ l) (set-numbers ps i n)
+
+-- and numbers as places
+unfoldable pub placesOf : List ℕ → List Place
+placesOf ns = map placed ns
+
+pub numbers-back : (ns : List ℕ) → numbers (placesOf ns) ≡ ns
+unfolding numbers placesOf
+numbers-back [] = refl
+numbers-back (n ∷ ns) = ap (λ (l : List ℕ). n ∷ l) (numbers-back ns)
+
+pub length-places : (ns : List ℕ) → length (placesOf ns) ≡ length ns
+unfolding placesOf
+length-places ns = length-map ns placed
+
+pub getD-places : (ns : List ℕ) (i : ℕ) → getD (placesOf ns) i (placed 0) .0 ≡ getD ns i 0
+unfolding placesOf
+getD-places [] i = refl
+getD-places (n ∷ ns) zero = refl
+getD-places (n ∷ ns) (suc i) = getD-places ns i
+
+pub set-places : (ns : List ℕ) (i n : ℕ) → set (placesOf ns) i (placed n) ≡ placesOf (set ns i n)
+unfolding placesOf
+set-places [] i n = refl
+set-places (m ∷ ns) zero n = refl
+set-places (m ∷ ns) (suc i) n = ap (λ (l : List Place). placed m ∷ l) (set-places ns i n)
 
 -- one record of run r has been read
 pub raise-numbers : (ps : List Place) {r i : ℕ} → i ≡ r → numbers (set ps i (placed (getD ps i (placed 0) .0 + 1))) ≡ raise (numbers ps) r

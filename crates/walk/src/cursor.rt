@@ -68,3 +68,20 @@ pub fn load(x: &[u8], at: usize, h: u8) -> [Place; 63]
     }
     places
 }
+
+// The same into numbers that are lent: where they are used at once, so that none are copied.
+pub fn reload(x: &[u8], at: usize, h: u8, places: &mut [u16])
+    requires { ⌜ (at + 8 + 2 * h ≤ length (now x)) × (h ≤ 63) × (length (now places) ≡ 63) ⌝ }
+    ensures { λ _. ⌜ now (places .exit) ≡ loadedFrom h (now (x .entry)) at ⌝ }
+{
+    let mut i: usize = 0;
+    while i < 63 {
+        places[i] = 0;
+        i += 1;
+    }
+    let mut r = wide_size(h);
+    while 0 < r {
+        r -= 1;
+        places[r] = big2(x, at + 8 + 2 * r);
+    }
+}

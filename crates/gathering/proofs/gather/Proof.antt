@@ -1,26 +1,27 @@
 -- `gathering::gather` meets its contract. Invariant: what is gathered, with what is still to come, is all that is to be gathered. Measure: the
 -- selectors left. Assumes nothing.
-use mathlib.Core.Path.{refl}
+use mathlib.Core.Path.{refl, sym, _∙_}
 use Prim.Native.Nat.{_-_}
 use Rattle.tray.specs.Frame.Code.{cut}
+use Rattle.walk.specs.Code.{placesOf, length-places}
 use Rattle.walk.specs.Code.Turns.{within, selector-is}
-use Rattle.gathering.specs.Stops.Code.{clear-le, Gathering, gathering-first, gathering-pass, gathering-name, gathered-no-run, gathered-no-place, gathered-all}
+use Rattle.gathering.specs.Stops.Code.{clear-le, Gathering, gathering-first, gathering-pass, gathering-room, gathering-names, gathered-past, gathered-no-run, gathered-all}
 use native.Mathlib.Omega.{arith}
 use borrow.Author.Needs.{needs}
 use Rattle.gathering.proofs.gather.Statement.{statement}
 use Rattle.gathering.proofs.gather.Tie as tie
 
 abbrev Inv-loop : tie.InvT-loop
-Inv-loop t x h d n counts starts g from before ats₀ first size places₀ k₀ s₀ ats places k s = Gathering t x d g s₀ places₀ before ats₀ s places k ats
+Inv-loop t x h d n counts starts g from places₀ before ats₀ first size k₀ s₀ places ats k s = Gathering t x d g s₀ (placesOf places₀) before ats₀ s (placesOf places) k ats
 
 abbrev μ-loop : tie.MeasureT-loop
-μ-loop t x h d n counts starts g from before ats₀ first size places₀ k₀ s₀ ats places k s = size - s
+μ-loop t x h d n counts starts g from places₀ before ats₀ first size k₀ s₀ places ats k s = size - s
 
 segment-at-requires : tie.Need-segment-at-requires Inv-loop μ-loop
 segment-at-requires c κs = search needs
 
 add-first : tie.Need-add-first Inv-loop μ-loop
-add-first c = omega (arith, within (c .before .before .before .before .before .before .pre .0) (c .before .before .before .before .before .before .pre .1 .1 .0) (c .segment-at .ensures))
+add-first c = omega (arith, within (c .before .before .before .before .before .before .before .pre .0) (c .before .before .before .before .before .before .before .pre .1 .1 .0) (c .segment-at .ensures))
 
 wide-size-requires : tie.Need-wide-size-requires Inv-loop μ-loop
 wide-size-requires c κs = search needs
@@ -29,19 +30,19 @@ mul-first : tie.Need-mul-first Inv-loop μ-loop
 mul-first c = search needs
 
 add-first-2 : tie.Need-add-first-2 Inv-loop μ-loop
-add-first-2 c = omega (arith, within (c .before .before .before .before .before .before .before .pre .0) (c .before .before .before .before .before .before .before .pre .1 .1 .0) (c .before .segment-at .ensures), c .wide-size .ensures)
+add-first-2 c = omega (arith, within (c .before .before .before .before .before .before .before .before .pre .0) (c .before .before .before .before .before .before .before .before .pre .1 .1 .0) (c .before .segment-at .ensures), c .wide-size .ensures)
 
 wide-size-requires-2 : tie.Need-wide-size-requires-2 Inv-loop μ-loop
 wide-size-requires-2 c κs = search needs
 
 loop-holds : tie.Need-loop-holds Inv-loop μ-loop
-loop-holds c = gathering-first _ _ _ _ (c .before .before .before .before .before .before .before .before .pre .1 .1 .1) (c .before .before .before .before .before .before .before .before .pre .1 .1 .2)
+loop-holds c = gathering-first _ _ _ _ (c .before .before .before .before .before .before .before .before .before .pre .1 .1 .1) (length-places _ ∙ c .before .before .before .before .before .before .before .before .before .pre .1 .1 .2)
 
 add-v : tie.Need-add-v Inv-loop μ-loop
-add-v c = omega (arith, within (c .before .before .before .before .before .before .before .before .before .before .pre .0) (c .before .before .before .before .before .before .before .before .before .before .pre .1 .1 .0) (c .before .before .before .before .segment-at .ensures), c .before .before .before .wide-size .ensures, c .before .before .wide-size2 .ensures, c .loop-test .taken)
+add-v c = omega (arith, within (c .before .before .before .before .before .before .before .before .before .before .before .pre .0) (c .before .before .before .before .before .before .before .before .before .before .before .pre .1 .1 .0) (c .before .before .before .before .segment-at .ensures), c .before .before .before .wide-size .ensures, c .before .before .wide-size2 .ensures, c .loop-test .taken)
 
 shared-slice-read-v : tie.Need-shared-slice-read-v Inv-loop μ-loop
-shared-slice-read-v c = omega (arith, within (c .before .before .before .before .before .before .before .before .before .before .before .pre .0) (c .before .before .before .before .before .before .before .before .before .before .before .pre .1 .1 .0) (c .before .before .before .before .before .segment-at .ensures), c .before .before .before .before .wide-size .ensures, c .before .before .before .wide-size2 .ensures, c .before .loop-test .taken)
+shared-slice-read-v c = omega (arith, within (c .before .before .before .before .before .before .before .before .before .before .before .before .pre .0) (c .before .before .before .before .before .before .before .before .before .before .before .before .pre .1 .1 .0) (c .before .before .before .before .before .segment-at .ensures), c .before .before .before .before .wide-size .ensures, c .before .before .before .wide-size2 .ensures, c .before .loop-test .taken)
 
 add-s : tie.Need-add-s Inv-loop μ-loop
 add-s c = omega arith
@@ -50,28 +51,28 @@ loop-less : tie.Need-loop-less Inv-loop μ-loop
 loop-less c = omega arith
 
 loop-again : tie.Need-loop-again Inv-loop μ-loop
-loop-again c = gathering-pass (c .before .before .before .loop .inv) (c .before .before .before .before .before .before .before .before .before .before .before .before .pre .0) (omega (arith, c .before .before .before .before .wide-size2 .ensures, c .before .before .loop-test .taken)) (selector-is (c .before .before .before .before .before .before .before .before .before .before .before .before .pre .0) _ _ (c .before .before .before .before .before .before .segment-at .ensures) (omega (arith, c .before .before .before .before .before .wide-size .ensures)) refl) (c .if1 .taken)
+loop-again c = gathering-pass (c .before .before .before .loop .inv) (c .before .before .before .before .before .before .before .before .before .before .before .before .before .pre .0) (omega (arith, c .before .before .before .before .wide-size2 .ensures, c .before .before .loop-test .taken)) (selector-is (c .before .before .before .before .before .before .before .before .before .before .before .before .before .pre .0) _ _ (c .before .before .before .before .before .before .segment-at .ensures) (omega (arith, c .before .before .before .before .before .wide-size .ensures)) refl) (c .if1 .taken)
 
 wide-size-requires-3 : tie.Need-wide-size-requires-3 Inv-loop μ-loop
 wide-size-requires-3 c κs = search needs
 
-mul-p : tie.Need-mul-p Inv-loop μ-loop
-mul-p c = search needs
+mul-q : tie.Need-mul-q Inv-loop μ-loop
+mul-q c = search needs
 
-array-copy-out-p : tie.Need-array-copy-out-p Inv-loop μ-loop
-array-copy-out-p c = omega (arith, c .before .before .before .before .before .loop .inv .room, c .before .before .before .before .before .before .before .before .before .before .before .before .before .before .pre .0 .few, c .wide-size3 .ensures, c .before .if2 .taken)
+slice-read-q : tie.Need-slice-read-q Inv-loop μ-loop
+slice-read-q c = omega (arith, gathering-room _ (c .before .before .before .before .before .before .loop .inv), c .before .before .before .before .before .before .before .before .before .before .before .before .before .before .before .before .pre .0 .few, c .before .wide-size3 .ensures, c .before .before .if2 .taken)
 
 mul-if3 : tie.Need-mul-if3 Inv-loop μ-loop
 mul-if3 c = search needs
 
 shared-slice-read-if3 : tie.Need-shared-slice-read-if3 Inv-loop μ-loop
-shared-slice-read-if3 c = omega (arith, c .before .before .before .before .before .before .before .before .before .before .before .before .before .before .before .before .pre .0 .room, c .before .before .before .before .before .before .before .before .before .before .before .before .before .before .before .before .pre .0 .few, c .before .before .wide-size3 .ensures, c .before .before .before .if2 .taken)
+shared-slice-read-if3 c = omega (arith, c .before .before .before .before .before .before .before .before .before .before .before .before .before .before .before .before .before .pre .0 .room, c .before .before .before .before .before .before .before .before .before .before .before .before .before .before .before .before .before .pre .0 .few, c .before .before .wide-size3 .ensures, c .before .before .before .if2 .taken)
 
 mul-ats : tie.Need-mul-ats Inv-loop μ-loop
 mul-ats c = search needs
 
 shared-slice-read-ats : tie.Need-shared-slice-read-ats Inv-loop μ-loop
-shared-slice-read-ats c = omega (arith, c .before .before .before .before .before .before .before .before .before .before .before .before .before .before .before .before .before .before .pre .1 .0 .room, c .before .before .before .before .before .before .before .before .before .before .before .before .before .before .before .before .before .before .pre .0 .few, c .before .before .before .before .wide-size3 .ensures, c .before .before .before .before .before .if2 .taken)
+shared-slice-read-ats c = omega (arith, c .before .before .before .before .before .before .before .before .before .before .before .before .before .before .before .before .before .before .before .pre .1 .0 .room, c .before .before .before .before .before .before .before .before .before .before .before .before .before .before .before .before .before .before .before .pre .0 .few, c .before .before .before .before .wide-size3 .ensures, c .before .before .before .before .before .if2 .taken)
 
 size16-requires : tie.Need-size16-requires Inv-loop μ-loop
 size16-requires c κs = search needs
@@ -80,28 +81,28 @@ mul-ats-2 : tie.Need-mul-ats-2 Inv-loop μ-loop
 mul-ats-2 c = omega (arith, c .size16 .ensures, c .before .before .before .shared-slice-known6 .given (c .before .before .before .before .before .wide-size3 .result), c .before .before .if3 .taken)
 
 add-ats : tie.Need-add-ats Inv-loop μ-loop
-add-ats c = let k = cut _ (c .before .before .before .before .before .before .before .before .before .before .before .before .before .before .before .before .before .before .before .pre .1 .0) (omega (arith, c .before .before .before .before .before .before .before .before .before .before .before .before .before .before .before .before .before .before .before .pre .0 .runs, c .before .before .before .before .before .before .if2 .taken)) (c .before .before .before .before .before .wide-size3 .ensures) in omega (arith, k .start, k .end, c .before .before .before .before .before .before .before .before .before .before .before .before .before .before .before .before .before .before .before .good .0 .0, c .size16 .ensures, c .before .before .before .shared-slice-known6 .given (c .before .before .before .before .before .wide-size3 .result), c .before .before .if3 .taken)
+add-ats c = let k = cut _ (c .before .before .before .before .before .before .before .before .before .before .before .before .before .before .before .before .before .before .before .before .pre .1 .0) (omega (arith, c .before .before .before .before .before .before .before .before .before .before .before .before .before .before .before .before .before .before .before .before .pre .0 .runs, c .before .before .before .before .before .before .if2 .taken)) (c .before .before .before .before .before .wide-size3 .ensures) in omega (arith, k .start, k .end, c .before .before .before .before .before .before .before .before .before .before .before .before .before .before .before .before .before .before .before .before .good .0 .0, c .size16 .ensures, c .before .before .before .shared-slice-known6 .given (c .before .before .before .before .before .wide-size3 .result), c .before .before .if3 .taken)
 
 mul-ats-3 : tie.Need-mul-ats-3 Inv-loop μ-loop
-mul-ats-3 c = omega (arith, c .before .before .before .before .before .before .before .before .before .before .loop .inv .few, c .before .before .before .before .before .before .before .before .before .loop-test .taken, c .before .before .before .before .before .before .before .before .before .before .before .wide-size2 .ensures, c .before .before .before .before .before .before .before .before .before .before .before .before .before .before .before .before .before .before .before .pre .1 .1 .3, c .before .before .before .before .before .before .before .before .before .before .loop .inv .kept, c .before .before .before .before .before .before .before .before .before .before .before .before .before .before .before .before .before .before .before .good .0 .0)
+mul-ats-3 c = omega (arith, c .before .before .before .before .before .before .before .before .before .before .loop .inv .few, c .before .before .before .before .before .before .before .before .before .loop-test .taken, c .before .before .before .before .before .before .before .before .before .before .before .wide-size2 .ensures, c .before .before .before .before .before .before .before .before .before .before .before .before .before .before .before .before .before .before .before .before .pre .1 .1 .3, c .before .before .before .before .before .before .before .before .before .before .loop .inv .kept, c .before .before .before .before .before .before .before .before .before .before .before .before .before .before .before .before .before .before .before .before .good .0 .0)
 
 slice-write-ats : tie.Need-slice-write-ats Inv-loop μ-loop
-slice-write-ats c = omega (arith, c .before .before .before .before .before .before .before .before .before .before .loop .inv .few, c .before .before .before .before .before .before .before .before .before .loop-test .taken, c .before .before .before .before .before .before .before .before .before .before .before .wide-size2 .ensures, c .before .before .before .before .before .before .before .before .before .before .before .before .before .before .before .before .before .before .before .pre .1 .1 .3, c .before .before .before .before .before .before .before .before .before .before .loop .inv .kept, c .before .before .before .before .before .before .before .before .before .before .before .before .before .before .before .before .before .before .before .pre .1 .1 .3, c .before .before .before .before .before .before .before .before .before .before .loop .inv .kept, c .before .before .before .before .before .before .before .before .before .before .before .before .before .before .before .before .before .before .before .good .0 .0)
+slice-write-ats c = omega (arith, c .before .before .before .before .before .before .before .before .before .before .loop .inv .few, c .before .before .before .before .before .before .before .before .before .loop-test .taken, c .before .before .before .before .before .before .before .before .before .before .before .wide-size2 .ensures, c .before .before .before .before .before .before .before .before .before .before .before .before .before .before .before .before .before .before .before .before .pre .1 .1 .3, c .before .before .before .before .before .before .before .before .before .before .loop .inv .kept, c .before .before .before .before .before .before .before .before .before .before .before .before .before .before .before .before .before .before .before .before .pre .1 .1 .3, c .before .before .before .before .before .before .before .before .before .before .loop .inv .kept, c .before .before .before .before .before .before .before .before .before .before .before .before .before .before .before .before .before .before .before .before .good .0 .0)
 
 clear-requires : tie.Need-clear-requires Inv-loop μ-loop
 clear-requires c κs = search needs
 
 add-k : tie.Need-add-k Inv-loop μ-loop
-add-k c = omega (arith, clear-le _ (c .clear .ensures), c .before .before .before .before .before .before .before .before .before .before .before .loop .inv .few, c .before .before .before .before .before .before .before .before .before .before .loop-test .taken, c .before .before .before .before .before .before .before .before .before .before .before .before .wide-size2 .ensures, c .before .before .before .before .before .before .before .before .before .before .before .before .before .before .before .before .before .before .before .before .pre .1 .1 .3, c .before .before .before .before .before .before .before .before .before .before .before .loop .inv .kept, c .before .before .before .before .before .before .before .before .before .before .before .before .before .before .before .before .before .before .before .before .good .0 .0)
+add-k c = omega (arith, clear-le _ (c .clear .ensures), c .before .before .before .before .before .before .before .before .before .before .before .loop .inv .few, c .before .before .before .before .before .before .before .before .before .before .loop-test .taken, c .before .before .before .before .before .before .before .before .before .before .before .before .wide-size2 .ensures, c .before .before .before .before .before .before .before .before .before .before .before .before .before .before .before .before .before .before .before .before .before .pre .1 .1 .3, c .before .before .before .before .before .before .before .before .before .before .before .loop .inv .kept, c .before .before .before .before .before .before .before .before .before .before .before .before .before .before .before .before .before .before .before .before .before .good .0 .0)
 
-add-t47 : tie.Need-add-t47 Inv-loop μ-loop
-add-t47 c = omega (arith, c .before .before .before .before .shared-slice-known6 .given (c .before .before .before .before .before .before .wide-size3 .result), c .before .before .before .if3 .taken)
+add-places : tie.Need-add-places Inv-loop μ-loop
+add-places c = omega (arith, c .before .before .before .before .shared-slice-known6 .given (c .before .before .before .before .before .before .wide-size3 .result), c .before .before .before .if3 .taken)
 
 mul-places : tie.Need-mul-places Inv-loop μ-loop
 mul-places c = omega arith
 
-array-set-from-places : tie.Need-array-set-from-places Inv-loop μ-loop
-array-set-from-places c = omega (arith, c .before .before .before .before .before .before .before .before .before .before .before .loop .inv .room, c .before .before .before .before .before .before .before .before .before .before .before .before .before .before .before .before .before .before .before .before .pre .0 .few, c .before .before .before .before .before .before .wide-size3 .ensures, c .before .before .before .before .before .before .before .if2 .taken)
+slice-write-places : tie.Need-slice-write-places Inv-loop μ-loop
+slice-write-places c = omega (arith, gathering-room _ (c .before .before .before .before .before .before .before .before .before .before .before .loop .inv), c .before .before .before .before .before .before .before .before .before .before .before .before .before .before .before .before .before .before .before .before .before .pre .0 .few, c .before .before .before .before .before .before .wide-size3 .ensures, c .before .before .before .before .before .before .before .if2 .taken)
 
 add-s-2 : tie.Need-add-s-2 Inv-loop μ-loop
 add-s-2 c = omega arith
@@ -110,22 +111,31 @@ loop-less-2 : tie.Need-loop-less-2 Inv-loop μ-loop
 loop-less-2 c = omega arith
 
 loop-again-2 : tie.Need-loop-again-2 Inv-loop μ-loop
-loop-again-2 c = gathering-name (c .before .before .before .before .before .before .before .before .before .before .before .loop .inv) (c .before .before .before .before .before .before .before .before .before .before .before .before .before .before .before .before .before .before .before .before .pre .0) (omega (arith, c .before .before .before .before .before .before .before .before .before .before .before .before .wide-size2 .ensures, c .before .before .before .before .before .before .before .before .before .before .loop-test .taken)) (selector-is (c .before .before .before .before .before .before .before .before .before .before .before .before .before .before .before .before .before .before .before .before .pre .0) _ _ (c .before .before .before .before .before .before .before .before .before .before .before .before .before .before .segment-at .ensures) (omega (arith, c .before .before .before .before .before .before .before .before .before .before .before .before .before .wide-size .ensures)) refl) (c .before .before .before .before .before .before .before .before .if1 .left) (c .before .before .before .before .before .before .before .if2 .taken) (c .before .before .before .before .before .before .wide-size3 .ensures) (c .before .before .before .if3 .taken) (c .before .before .before .before .before .before .before .before .before .before .before .before .before .before .before .before .before .before .before .before .pre .1 .0) (omega (arith, c .before .before .before .before .before .before .before .before .before .before .before .before .before .before .before .before .before .before .before .before .pre .1 .1 .3, c .before .before .before .before .before .before .before .before .before .before .before .loop .inv .kept)) refl (c .before .size16 .ensures) (c .clear .ensures)
+loop-again-2 c = gathering-names _ (c .before .before .before .before .before .before .before .before .before .before .before .loop .inv) (c .before .before .before .before .before .before .before .before .before .before .before .before .before .before .before .before .before .before .before .before .before .pre .0) (omega (arith, c .before .before .before .before .before .before .before .before .before .before .before .before .wide-size2 .ensures, c .before .before .before .before .before .before .before .before .before .before .loop-test .taken)) (selector-is (c .before .before .before .before .before .before .before .before .before .before .before .before .before .before .before .before .before .before .before .before .before .pre .0) _ _ (c .before .before .before .before .before .before .before .before .before .before .before .before .before .before .segment-at .ensures) (omega (arith, c .before .before .before .before .before .before .before .before .before .before .before .before .before .wide-size .ensures)) refl) (c .before .before .before .before .before .before .before .before .if1 .left) (c .before .before .before .before .before .before .before .if2 .taken) (c .before .before .before .before .before .before .wide-size3 .ensures) (c .before .before .before .if3 .taken) (c .before .before .before .before .before .before .before .before .before .before .before .before .before .before .before .before .before .before .before .before .before .pre .1 .0) (omega (arith, c .before .before .before .before .before .before .before .before .before .before .before .before .before .before .before .before .before .before .before .before .before .pre .1 .1 .3, c .before .before .before .before .before .before .before .before .before .before .before .loop .inv .kept)) refl (c .before .size16 .ensures) (c .clear .ensures)
 
 same-length : tie.Need-same-length Inv-loop μ-loop
-same-length c = c .before .before .before .before .before .before .before .before .loop .inv .kept
-
-returns : tie.Need-returns Inv-loop μ-loop
-returns c = gathered-no-place (c .before .before .before .before .before .before .before .before .loop .inv) (c .before .before .before .before .before .before .before .before .before .before .before .before .before .before .before .before .before .pre .0) (omega (arith, c .before .before .before .before .before .before .before .before .before .wide-size2 .ensures, c .before .before .before .before .before .before .before .loop-test .taken)) (selector-is (c .before .before .before .before .before .before .before .before .before .before .before .before .before .before .before .before .before .pre .0) _ _ (c .before .before .before .before .before .before .before .before .before .before .before .segment-at .ensures) (omega (arith, c .before .before .before .before .before .before .before .before .before .before .wide-size .ensures)) refl) (c .before .before .before .before .before .if1 .left) (c .before .before .before .before .if2 .taken) (c .before .before .before .wide-size3 .ensures) (c .if3 .left)
+same-length c = gathering-room _ (c .before .before .before .before .before .before .before .before .loop .inv) ∙ sym (c .before .before .before .before .before .before .before .before .before .before .before .before .before .before .before .before .before .before .pre .1 .1 .2)
 
 same-length-2 : tie.Need-same-length-2 Inv-loop μ-loop
-same-length-2 c = c .before .before .before .before .loop .inv .kept
+same-length-2 c = c .before .before .before .before .before .before .before .before .loop .inv .kept
 
-returns-2 : tie.Need-returns-2 Inv-loop μ-loop
-returns-2 c = gathered-no-run (c .before .before .before .before .loop .inv) (c .before .before .before .before .before .before .before .before .before .before .before .before .before .pre .0) (omega (arith, c .before .before .before .before .before .wide-size2 .ensures, c .before .before .before .loop-test .taken)) (selector-is (c .before .before .before .before .before .before .before .before .before .before .before .before .before .pre .0) _ _ (c .before .before .before .before .before .before .before .segment-at .ensures) (omega (arith, c .before .before .before .before .before .before .wide-size .ensures)) refl) (c .before .if1 .left) (c .if2 .left)
+returns : tie.Need-returns Inv-loop μ-loop
+returns c = gathered-past _ (c .before .before .before .before .before .before .before .before .loop .inv) (c .before .before .before .before .before .before .before .before .before .before .before .before .before .before .before .before .before .before .pre .0) (omega (arith, c .before .before .before .before .before .before .before .before .before .wide-size2 .ensures, c .before .before .before .before .before .before .before .loop-test .taken)) (selector-is (c .before .before .before .before .before .before .before .before .before .before .before .before .before .before .before .before .before .before .pre .0) _ _ (c .before .before .before .before .before .before .before .before .before .before .before .segment-at .ensures) (omega (arith, c .before .before .before .before .before .before .before .before .before .before .wide-size .ensures)) refl) (c .before .before .before .before .before .if1 .left) (c .before .before .before .before .if2 .taken) (c .before .before .before .wide-size3 .ensures) (c .if3 .left)
 
 same-length-3 : tie.Need-same-length-3 Inv-loop μ-loop
-same-length-3 c = c .before .loop .inv .kept
+same-length-3 c = gathering-room _ (c .before .before .before .before .loop .inv) ∙ sym (c .before .before .before .before .before .before .before .before .before .before .before .before .before .before .pre .1 .1 .2)
+
+same-length-4 : tie.Need-same-length-4 Inv-loop μ-loop
+same-length-4 c = c .before .before .before .before .loop .inv .kept
+
+returns-2 : tie.Need-returns-2 Inv-loop μ-loop
+returns-2 c = gathered-no-run (c .before .before .before .before .loop .inv) (c .before .before .before .before .before .before .before .before .before .before .before .before .before .before .pre .0) (omega (arith, c .before .before .before .before .before .wide-size2 .ensures, c .before .before .before .loop-test .taken)) (selector-is (c .before .before .before .before .before .before .before .before .before .before .before .before .before .before .pre .0) _ _ (c .before .before .before .before .before .before .before .segment-at .ensures) (omega (arith, c .before .before .before .before .before .before .wide-size .ensures)) refl) (c .before .if1 .left) (c .if2 .left)
+
+same-length-5 : tie.Need-same-length-5 Inv-loop μ-loop
+same-length-5 c = gathering-room _ (c .before .loop .inv) ∙ sym (c .before .before .before .before .before .before .before .before .before .before .before .pre .1 .1 .2)
+
+same-length-6 : tie.Need-same-length-6 Inv-loop μ-loop
+same-length-6 c = c .before .loop .inv .kept
 
 returns-3 : tie.Need-returns-3 Inv-loop μ-loop
 returns-3 c = gathered-all (c .before .loop .inv) (c .before .before .wide-size2 .ensures) (c .loop-test .left)
@@ -149,8 +159,8 @@ gather-spec =
     loop-less
     loop-again
     wide-size-requires-3
-    mul-p
-    array-copy-out-p
+    mul-q
+    slice-read-q
     mul-if3
     shared-slice-read-if3
     mul-ats
@@ -162,15 +172,18 @@ gather-spec =
     slice-write-ats
     clear-requires
     add-k
-    add-t47
+    add-places
     mul-places
-    array-set-from-places
+    slice-write-places
     add-s-2
     loop-less-2
     loop-again-2
     same-length
-    returns
     same-length-2
-    returns-2
+    returns
     same-length-3
+    same-length-4
+    returns-2
+    same-length-5
+    same-length-6
     returns-3)

@@ -3,8 +3,9 @@
 --     Gathering                                            the loop that gathers
 --     gathering-first, gathering-pass, gathering-name      where it begins, and its turns
 --     gathered-no-run, gathered-no-place, gathered-all     its ends
+--     gathering-room, gathering-names, gathered-past       the same of places as numbers
 -- Assumes nothing.
-use mathlib.Core.Path.{_≡_, refl, sym, ap, ap₂, _∙_}
+use mathlib.Core.Path.{_≡_, refl, sym, ap, ap₂, _∙_, subst}
 use Prim.Native.Nat.{ℕ, suc, _+_, _-_, _*_, _/_, _%_, _≤_, _<_}
 use native.Mathlib.Nat.{add-zero}
 use native.Mathlib.Numerals.{add-one}
@@ -21,7 +22,7 @@ use Rattle.tray.specs.Frame.{runCount, startOf, Starts}
 use Rattle.index.specs.Scan.{raise}
 use Rattle.walk.specs.Walk.{selectorAt, named}
 use Rattle.walk.specs.Reads.{unmarked}
-use Rattle.walk.specs.Code.{placed, numbers, raise-numbers, Walking}
+use Rattle.walk.specs.Code.{placed, numbers, placesOf, length-places, getD-places, set-places, raise-numbers, Walking}
 use Rattle.walk.specs.Code.Turns.{named-run, named-yes, named-past, place-is}
 use Rattle.gathering.specs.Stops.{stopsIn, stopIn, positionOf, positions, GatheredFrom}
 use Rattle.gathering.specs.Stops.Laws.{stopAt, stops-pass, stops-name, stops-marked, stops-lost, stop-pass, stop-name, stop-lost}
@@ -193,3 +194,21 @@ module _ {t x : List ℕ} {d g s₀ : ℕ} {places₀ : List Place} {before : �
                 cases (unmarked v)
                 (λ y. let one : u ≡ 1 = c ∙ rw y in rw one (listed y))
                 (λ y. let none : u ≡ 0 = c ∙ rw y in rw (none, add-zero) (marked a y))
+
+-- the same of places as numbers
+module _ {t x : List ℕ} {d g s₀ : ℕ} {places₀ : List Place} {before : ℕ} {ats₀ : List ℕ} {s : ℕ} (ps : List ℕ) {k : ℕ} {ats : List ℕ} (i : Gathering t x d g s₀ places₀ before ats₀ s (placesOf ps) k ats) where
+  pub gathering-room : length ps ≡ 63
+  gathering-room = sym (length-places ps) ∙ i .room
+
+  module _ {h n : ℕ} {counts : List ℕ} (w : Walking t x h d n counts) {v : ℕ} (l : s < d) (read : v ≡ selectorAt (runCount t) x g s) (real : v ≡ 63 → ⊥)
+      {j : ℕ} (below : v % 64 < h) (e : j ≡ v % 64) where
+    pub gathered-past : getD counts j 0 ≤ getD ps j 0 → GatheredFrom t x d g s₀ places₀ before ats₀ k s ats
+    gathered-past a = gathered-no-place i w l read real below e (subst (λ (q : ℕ). getD counts j 0 ≤ q) (sym (getD-places ps j)) a)
+
+    pub gathering-names : getD ps j 0 < getD counts j 0 → {starts : List ℕ} → Starts t starts → d + before ≤ s₀ + length ats
+        → {a q : ℕ} → a ≡ getD starts j 0 + 25 * q → q ≡ getD ps j 0 → {u : ℕ} → u ≡ cond (unmarked v) 1 0
+        → Gathering t x d g s₀ places₀ before ats₀ (s + 1) (placesOf (set ps j (getD ps j 0 + 1))) (k + u) (set ats k a)
+    gathering-names there o wide {a} {q} at place {u} c =
+        subst (λ (qs : List Place). Gathering t x d g s₀ places₀ before ats₀ (s + 1) qs (k + u) (set ats k a))
+        (ap (λ (m : ℕ). set (placesOf ps) j (placed (m + 1))) (getD-places ps j) ∙ set-places ps j (getD ps j 0 + 1))
+        (gathering-name i w l read real below e (subst (λ (m : ℕ). m < getD counts j 0) (sym (getD-places ps j)) there) o wide at (place ∙ sym (getD-places ps j)) c)

@@ -1,15 +1,17 @@
 -- The places on entering a segment, as the code loads them: from the last run down.
 --     loadedFrom, loaded-is          the places on entering the segment that starts at a byte
 --     Loading, loading-none, loading-more, loading-end     the runs from r on are loaded
+--     Clearing, clearing-.., reloading-..     the same into numbers that are lent
 -- Assumes nothing.
-use mathlib.Core.Path.{_≡_, refl, sym, ap, _∙_}
-use Prim.Native.Nat.{ℕ, _-_, _≤_, _<_}
+use mathlib.Core.Path.{_≡_, refl, sym, ap, _∙_, subst}
+use Prim.Native.Nat.{ℕ, zero, suc, _+_, _-_, _≤_, _<_}
+use native.Mathlib.Numerals.{add-one}
 use native.Mathlib.Omega.{arith}
 use native.Mathlib.Nat.{zero-add}
 use mathlib.Core.Bool.{cond}
-use mathlib.Core.List.{List}
-use lib.ListN.{length, getD, set, replicate, length-set, getD-replicate, List·getD-eq-default}
-use lib.Seq.{ext-getD, getD-set-same, getD-set-other}
+use mathlib.Core.List.{List, [], _∷_, _++_, map}
+use lib.ListN.{length, getD, set, take, replicate, length-set, getD-replicate, List·getD-eq-default}
+use lib.Seq.{ext-getD, getD-set-same, getD-set-other, take-suc-set, take-all}
 use lib.Dec.{ltb}
 use borrow.Author.Tests.{ltb-true, ltb-false}
 use Rattle.theory.specs.Tests.{cases, order}
@@ -19,7 +21,7 @@ use Rattle.tray.specs.declared.Place.{Place}
 use Rattle.index.specs.Layout.{sizeOf, segmentAt, offsetFrom}
 use Rattle.index.specs.Layout.Laws.{getD-listed}
 use Rattle.walk.specs.Walk.{loaded}
-use Rattle.walk.specs.Code.{placed, numbers, getD-numbers, length-numbers}
+use Rattle.walk.specs.Code.{placed, numbers, getD-numbers, length-numbers, placesOf, numbers-back, length-places, set-places}
 
 -- the places on entering the segment that starts at a byte
 unfoldable pub loadedFrom : ℕ → List ℕ → ℕ → List ℕ
@@ -92,3 +94,49 @@ loading-end {h} {x} {at} {r} {places} c l m =
 pub length-loaded : (h : ℕ) (x : List ℕ) (at : ℕ) → length (loadedFrom h x at) ≡ 63
 unfolding loadedFrom
 length-loaded h x at = length-listed 63 0 (λ r. cond (ltb r h) (offsetFrom x at r) 0)
+
+-- the first i are cleared
+pub record Clearing (places₀ places : List ℕ) (i : ℕ) : Type 0 where
+  pub low : i ≤ length places₀
+  pub kept : length places ≡ length places₀
+  pub clear : take i places ≡ replicate {A = ℕ} i 0
+
+pub clearing-none : (places : List ℕ) → Clearing places places 0
+clearing-none places = record { low = omega arith; kept = refl; clear = refl }
+
+pub clearing-more : {places₀ places : List ℕ} {i : ℕ} → Clearing places₀ places i → i < length places₀ → Clearing places₀ (set places i 0) (i + 1)
+clearing-more {places₀} {places} {i} c l =
+    record {
+      low = omega arith;
+      kept = length-set places i 0 ∙ c .kept;
+      clear =
+          ap (λ (k : ℕ). take k (set places i 0)) (add-one i)
+          ∙ take-suc-set places i 0 (omega (arith, c .kept))
+          ∙ ap (λ (l : List ℕ). l ++ (0 ∷ [])) (c .clear)
+          ∙ sym (replicate-snoc i)
+          ∙ ap (λ (k : ℕ). replicate {A = ℕ} k 0) (sym (add-one i));
+    }
+  where
+    replicate-snoc : (n : ℕ) → replicate {A = ℕ} (suc n) 0 ≡ replicate {A = ℕ} n 0 ++ (0 ∷ [])
+    replicate-snoc zero = refl
+    replicate-snoc (suc n) = ap (λ (l : List ℕ). 0 ∷ l) (replicate-snoc n)
+
+-- all are, and loading begins
+pub clearing-all : {h : ℕ} {x : List ℕ} {at r : ℕ} {places₀ : List ℕ} {places : List ℕ} {i : ℕ} → Clearing places₀ places i → 63 ≤ i → length places₀ ≡ 63 → r ≡ h → h ≤ 63
+    → Loading h x at (placesOf places) r
+unfolding placesOf
+clearing-all {h} {x} {at} {r} {places₀} {places} {i} c l long e few =
+    let z : i ≡ 63 = omega (arith, c .low) in
+    let all : places ≡ replicate {A = ℕ} 63 0 = sym (take-all 63 places (omega (arith, c .kept, long))) ∙ ap (λ (k : ℕ). take k places) (sym z) ∙ c .clear ∙ ap (λ (k : ℕ). replicate {A = ℕ} k 0) z in
+    subst (λ (ps : List ℕ). Loading h x at (map placed ps) r) (sym all) (loading-none e few)
+
+pub reloading-more : {h : ℕ} {x : List ℕ} {at r q v : ℕ} (places : List ℕ) → Loading h x at (placesOf places) r → 0 < r → q ≡ r - 1 → h ≤ 63 → v ≡ offsetFrom x at q
+    → Loading h x at (placesOf (set places q v)) q
+reloading-more {h} {x} {at} {r} {q} {v} places c l e m read =
+    subst (λ (ps : List Place). Loading h x at ps q) (set-places places q v) (loading-more c l e m read)
+
+pub reloading-room : {h : ℕ} {x : List ℕ} {at r : ℕ} (places : List ℕ) → Loading h x at (placesOf places) r → length places ≡ 63
+reloading-room places c = sym (length-places places) ∙ c .room
+
+pub reloading-end : {h : ℕ} {x : List ℕ} {at r : ℕ} (places : List ℕ) → Loading h x at (placesOf places) r → r ≤ 0 → h ≤ 63 → places ≡ loadedFrom h x at
+reloading-end places c l m = sym (numbers-back places) ∙ loading-end c l m

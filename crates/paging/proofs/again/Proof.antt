@@ -1,0 +1,24 @@
+-- `paging::again` meets its contract: where the page began, or the segment's first selector. Assumes nothing.
+use Rattle.walk.specs.Code.{spotOf}
+use Rattle.paging.specs.Segments.{again-same, again-other}
+use native.Mathlib.Omega.{arith}
+use borrow.Author.Needs.{needs}
+use Rattle.paging.proofs.again.Statement.{statement}
+use Rattle.paging.proofs.again.Tie as tie
+
+returns : tie.Need-returns
+unfolding spotOf
+returns c = again-same _ _ _ _ _ _ (c .if1 .taken)
+
+segment-at-requires : tie.Need-segment-at-requires
+segment-at-requires c κs = search needs
+
+load-requires : tie.Need-load-requires
+load-requires c κs = (omega (arith, c .before .before .before .before .pre .0, c .segment-at .ensures), c .before .before .before .before .pre .1)
+
+returns-2 : tie.Need-returns-2
+unfolding spotOf
+returns-2 c = again-other _ _ _ _ _ _ (c .before .before .if1 .left) (c .before .segment-at .ensures) (c .load .ensures)
+
+pub again-spec : {M : Type 1} → statement M
+again-spec = tie.close (tie.spec returns segment-at-requires load-requires returns-2)
