@@ -1,4 +1,5 @@
-//! The calls of the C interface as they are, without pointers: number, figure and outputs. The only module with `unsafe`.
+//! The calls of the C interface as they are, without pointers: number, figure and outputs. The only module with
+//! `unsafe` blocks, but for the entry point that the feature `fuzzer` has.
 //!
 //! Tests and benchmarks use it to see every output byte. Programs are better served by the functions of the crate's root.
 //!

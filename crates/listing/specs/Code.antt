@@ -18,7 +18,7 @@ use Rattle.walk.specs.Walk.{Spot, walkFrom}
 use Rattle.walk.specs.Reads.{Written, endSpot, belongs, page, pageVisit}
 use Rattle.walk.specs.Code.{Walking, spotOf}
 use Rattle.walk.specs.Answers.{cursorOf, endAt}
-use Rattle.walk.specs.Answers.Code.{cursor-back}
+use Rattle.walk.specs.Answers.Code.{cursor-back, end-at}
 use Rattle.points.specs.declared.Stop.{Stop}
 use Rattle.points.specs.declared.Stop.the-variants.{More as StopMore, End as StopEnd, Lost as StopLost}
 use Rattle.points.specs.declared.Paged.{Paged}
@@ -40,8 +40,7 @@ abbrev pub toldPage : ℕ → Cursor → Paged → Pages
 toldPage n c p = toldAs n c (p .stop) (p .count) (p .cursor)
 
 end-is : (x : List ℕ) {n k : ℕ} → n ≡ segmentCount x → _≡_ {A = Pages} (record { answer = End; count = k; cursor = endAt n }) (record { answer = End; count = k; cursor = cursorOf (endSpot x) })
-unfolding cursorOf endSpot
-end-is x {n} {k} e = ap (λ (m : ℕ). record { answer = End; count = k; cursor = endAt m }) e
+end-is x {n} {k} e = ap (λ (m : Cursor). record { answer = End; count = k; cursor = m }) (end-at x e)
 
 told-as : (x : List ℕ) (n : ℕ) (c : Cursor) (a : Stop) (k : ℕ) (e : Cursor) (out : List ℕ) → n ≡ segmentCount x
     → toldAs n c a k e ≡ pageTold x c (pagedAs a (record { count = k; out = out }) (spotOf e))

@@ -16,14 +16,11 @@ use Rattle.walk.specs.declared.cursor.Cursor.{Cursor}
 use Rattle.walk.specs.declared.Seeks.{Seeks}
 use Rattle.walk.specs.declared.SeekAnswer.the-variants.{End}
 use Rattle.walk.specs.Walk.{walkFrom}
-use Rattle.walk.specs.Reads.{endSpot, belongs, next}
+use Rattle.walk.specs.Reads.{belongs, next}
 use Rattle.walk.specs.Code.{Walking, spotOf}
-use Rattle.walk.specs.Answers.{cursorOf, endAt}
+use Rattle.walk.specs.Answers.{endAt}
+use Rattle.walk.specs.Answers.Code.{end-at}
 use Rattle.answers.specs.Next.{refusedNext, nextTold, nextFramed}
-
-end-is : (x : List ℕ) {n : ℕ} → n ≡ segmentCount x → _≡_ {A = Seeks} (record { answer = End; cursor = endAt n }) (record { answer = End; cursor = cursorOf (endSpot x) })
-unfolding cursorOf endSpot
-end-is x e = ap (λ (k : ℕ). record { answer = End; cursor = endAt k }) e
 
 module _ {t x : List ℕ} {h d n : ℕ} {counts : List ℕ} (w : Walking t x h d n counts) (c : Cursor) {b : Bool} (told : b ≡ belongs h x (spotOf c)) where
   there : b ≡ true → belongs (runCount t) x (spotOf c) ≡ true
@@ -39,7 +36,7 @@ module _ {t x : List ℕ} {h d n : ℕ} {counts : List ℕ} (w : Walking t x h d
   unfolding nextFramed next walkFrom nextTold spotOf
   next-ends y l e =
       let count : n ≡ segmentCount x = w .index .count in
-      e ∙ end-is x count ∙ sym (rw (there y, le-ltb (c .segment .0) (segmentCount x) (omega arith)))
+      e ∙ ap (λ (k : Cursor). record { answer = End; cursor = k }) (end-at x count) ∙ sym (rw (there y, le-ltb (c .segment .0) (segmentCount x) (omega arith)))
 
   -- a cursor that doesn't belong
   pub next-off : {r : Seeks} → b ≡ false → r ≡ refusedNext c (NotBelonging (c .segment .0)) → r ≡ nextFramed t x c

@@ -2,7 +2,7 @@
 --     page-passes, tour-page       what a page does at a segment's stops
 --     paging-on, paging-lost       behind them
 --     againAt, again-same, again-other     where what is gathered of a segment begins
---     BySegments, segments-room, again-inside, again-whole     the loop over segments, and what it comes to where there is no room
+--     BySegments, again-inside, again-whole     the loop over segments, and what it comes to where there is no room
 -- Assumes nothing.
 use mathlib.Core.Path.{_≡_, sym, ap, ap₂, _∙_, subst}
 use Prim.Native.Nat.{ℕ, suc, _+_, _-_, _*_, _≤_, _<_}
@@ -28,7 +28,7 @@ use Rattle.walk.specs.Reads.{Written, listedBytes, write, unmarked, pageVisit}
 use Rattle.walk.specs.Reads.Page.{length-listed}
 use Rattle.index.specs.Layout.{segmentAt}
 use Rattle.walk.specs.declared.cursor.Cursor.{Cursor}
-use Rattle.walk.specs.Code.{numbers, placesOf, numbers-back, length-places, Walking, spotOf}
+use Rattle.walk.specs.Code.{numbers, placesOf, numbers-back, Walking, spotOf}
 use Rattle.walk.specs.Code.Load.{loadedFrom}
 use Rattle.walk.specs.Code.Turns.{here-whole}
 use Rattle.gathering.specs.Stops.{Stop, stopsIn, positionOf, GatheredFrom}
@@ -152,9 +152,6 @@ pub record BySegments (t x : List ℕ) (h d n slots g₀ s₀ : ℕ) (places₀ 
 -- so the page from where the segment began is the page from here, and answers for the whole
 module _ {t x : List ℕ} {h d n : ℕ} {counts : List ℕ} (w : Walking t x h d n counts) {slots g₀ s₀ : ℕ} {places₀ : List ℕ} {count₀ : ℕ} {out₀ ats : List ℕ}
     {g s : ℕ} {places : List ℕ} {count : ℕ} {out : List ℕ} (i : BySegments t x h d n slots g₀ s₀ places₀ count₀ out₀ ats g s places count out) where
-  pub segments-room : length places ≡ 63
-  segments-room = sym (length-places places) ∙ i .paging .here .room
-
   module _ {origin : List ℕ} (o : places₀ ≡ origin) (c : Cursor) (e : spotOf c ≡ againAt h x d g₀ s₀ origin g) where
     begins : spotOf c ≡ record { segment = g; selector = s; places = places }
     begins = e ∙ ap (λ (ps : List ℕ). againAt h x d g₀ s₀ ps g) (sym o) ∙ sym (i .again)

@@ -1,6 +1,6 @@
 -- What the code of the walk needs of the definitions: how its values stand for them, and what each turn of its loops is.
 --     numbers, getD-numbers, raise-numbers      places as numbers
---     placesOf, numbers-back, getD-places, set-places     and back
+--     placesOf, numbers-back, places-room, getD-places, set-places     and back
 --     Walking                                   tray and index as the code has them
 --     spotOf, soughtOf                          cursors and answers
 --     Segmenting, segments-end, segments-enter  the loop over segments
@@ -70,6 +70,9 @@ numbers-back (n ∷ ns) = ap (λ (l : List ℕ). n ∷ l) (numbers-back ns)
 pub length-places : (ns : List ℕ) → length (placesOf ns) ≡ length ns
 unfolding placesOf
 length-places ns = length-map ns placed
+
+pub places-room : (ns : List ℕ) → length (placesOf ns) ≡ 63 → length ns ≡ 63
+places-room ns r = sym (length-places ns) ∙ r
 
 pub getD-places : (ns : List ℕ) (i : ℕ) → getD (placesOf ns) i (placed 0) .0 ≡ getD ns i 0
 unfolding placesOf

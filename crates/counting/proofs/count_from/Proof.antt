@@ -4,12 +4,12 @@ use mathlib.Core.Path.{_≡_, refl, sym, ap, _∙_}
 use Prim.Native.Nat.{_-_}
 use lib.ListN.{length, length-map}
 use Rattle.walk.specs.Reads.{sheetVisit}
-use Rattle.walk.specs.Code.{placesOf, numbers-back, length-numbers, length-places}
+use Rattle.walk.specs.Code.{placesOf, numbers-back, length-numbers, length-places, places-room}
 use Rattle.walk.specs.Code.Turns.{within}
 use Rattle.gathering.specs.Stops.Laws.{gathered-within}
 use Rattle.points.specs.Steps.{onward-same, onward-from}
 use Rattle.counting.specs.Count.{countedAs}
-use Rattle.counting.specs.Count.Code.{Counting, counting-room, counting-first, counting-fits, counting-on, counting-enter, counted, counted-few, counted-past, counted-lost, counted-end}
+use Rattle.counting.specs.Count.Code.{Counting, counting-first, counting-fits, counting-on, counting-enter, counted, counted-few, counted-past, counted-lost, counted-end}
 use native.Mathlib.Omega.{arith}
 use borrow.Author.Needs.{needs}
 use Rattle.counting.proofs.count_from.Statement.{statement}
@@ -40,10 +40,10 @@ fitting-requires : tie.Need-fitting-requires Inv-loop μ-loop
 fitting-requires c κs = (omega (arith, c .before .loop .inv .fits, c .before .loop .inv .kept), omega (arith, c .before .before .before .before .before .before .before .before .before .before .pre .1 .1 .2, c .before .before .before .before .wide-size .ensures))
 
 slice-aggregate-gather : tie.Need-slice-aggregate-gather Inv-loop μ-loop
-slice-aggregate-gather c = sym (counting-room _ (c .before .before .before .loop .inv))
+slice-aggregate-gather c = sym (places-room _ (c .before .before .before .loop .inv .here .room))
 
 gather-requires : tie.Need-gather-requires Inv-loop μ-loop
-gather-requires c κs = (c .before .before .before .before .before .before .before .before .before .before .before .before .before .pre .0, (c .before .before .before .before .before .before .before .before .before .before .before .before .before .pre .1 .0, (c .before .before .before .before .loop .inv .here .on .inside, omega (arith, c .before .before .before .before .loop .inv .here .on .high, c .before .before .before .wide-size2 .ensures), counting-room _ (c .before .before .before .before .loop .inv), omega (arith, c .before .before .fitting .ensures .1, c .before .before .before .before .before .before .before .wide-size .ensures, c .before .before .before .wide-size2 .ensures, c .before .before .before .before .loop .inv .here .on .high, c .before .before .before .before .loop .inv .kept))))
+gather-requires c κs = (c .before .before .before .before .before .before .before .before .before .before .before .before .before .pre .0, (c .before .before .before .before .before .before .before .before .before .before .before .before .before .pre .1 .0, (c .before .before .before .before .loop .inv .here .on .inside, omega (arith, c .before .before .before .before .loop .inv .here .on .high, c .before .before .before .wide-size2 .ensures), places-room _ (c .before .before .before .before .loop .inv .here .room), omega (arith, c .before .before .fitting .ensures .1, c .before .before .before .before .before .before .before .wide-size .ensures, c .before .before .before .wide-size2 .ensures, c .before .before .before .before .loop .inv .here .on .high, c .before .before .before .before .loop .inv .kept))))
 
 first-past-requires : tie.Need-first-past-requires Inv-loop μ-loop
 first-past-requires c κs = (gathered-within (c .before .before .before .before .before .before .before .before .before .before .before .before .before .before .before .before .before .before .pre .1 .0 .frame) ((counting-fits (c .before .before .before .before .before .before .before .before .before .loop .inv) (sym (c .before .before .before .before .before .before .before .before .before .loop .inv .kept)) (omega (arith, c .before .before .before .before .before .before .before .before .before .before .before .before .before .before .before .before .before .before .pre .1 .1 .2, c .before .before .before .before .before .before .before .before .before .before .before .before .wide-size .ensures)) (c .before .before .before .before .before .before .before .fitting .ensures .0)) .within) (c .before .before .before .before .gather .ensures), (c .before .before .before .before .gather .ensures .least, omega (arith, c .before .before .before .before .gather .ensures .few, c .before .before .before .before .gather .ensures .high, c .before .before .before .before .before .before .before .fitting .ensures .1, c .before .before .before .before .before .before .before .before .before .before .before .before .wide-size .ensures, c .before .before .before .before .before .before .before .before .before .loop .inv .kept, c .before .before .before .before .gather .kept .1 .1 .1 .1 .1 .1 .1 .1 .1 .1 .1 .0)))
@@ -88,7 +88,7 @@ slice-aggregate-reload : tie.Need-slice-aggregate-reload Inv-loop μ-loop
 slice-aggregate-reload c = search needs
 
 reload-requires : tie.Need-reload-requires Inv-loop μ-loop
-reload-requires c κs = (omega (arith, within (c .before .before .before .before .before .before .before .before .before .before .before .before .before .before .before .before .before .before .before .before .before .before .before .before .pre .0) (c .before .before .if3 .left) (c .before .segment-at .ensures)), c .before .before .before .before .before .before .before .before .before .before .before .before .before .before .before .before .before .before .before .before .before .before .before .before .pre .0 .few, c .before .before .before .before .before .before .before .before .before .before .gather .kept .1 .1 .1 .1 .1 .1 .1 .1 .1 .0 ∙ counting-room _ (c .before .before .before .before .before .before .before .before .before .before .before .before .before .before .before .loop .inv))
+reload-requires c κs = (omega (arith, within (c .before .before .before .before .before .before .before .before .before .before .before .before .before .before .before .before .before .before .before .before .before .before .before .before .pre .0) (c .before .before .if3 .left) (c .before .segment-at .ensures)), c .before .before .before .before .before .before .before .before .before .before .before .before .before .before .before .before .before .before .before .before .before .before .before .before .pre .0 .few, c .before .before .before .before .before .before .before .before .before .before .gather .kept .1 .1 .1 .1 .1 .1 .1 .1 .1 .0 ∙ places-room _ (c .before .before .before .before .before .before .before .before .before .before .before .before .before .before .before .loop .inv .here .room))
 
 loop-less : tie.Need-loop-less Inv-loop μ-loop
 loop-less c = omega arith

@@ -27,7 +27,7 @@ use Rattle.index.specs.Layout.{segmentAt}
 use Rattle.walk.specs.Walk.{Spot, Visit, stay, go, Walked, stayed, ended, lost, walkSelectors, walkSegments}
 use Rattle.walk.specs.Walk.Tours.{after, tourThen}
 use Rattle.walk.specs.Reads.{unmarked, sheetVisit}
-use Rattle.walk.specs.Code.{numbers, Walking, placesOf, length-places}
+use Rattle.walk.specs.Code.{numbers, Walking}
 use Rattle.walk.specs.Code.Load.{loadedFrom}
 use Rattle.walk.specs.Code.Turns.{Here, here-enter}
 use Rattle.gathering.specs.Stops.{Stop, stopsIn, positionOf, Within, GatheredFrom}
@@ -154,11 +154,6 @@ counting-first t x high places ats l k r =
       within = within-none t;
       whole = λ _. refl;
     }
-
--- the places are numbers in the code
-pub counting-room : {t x : List ℕ} {high d n g₀ s₀ : ℕ} {places₀ : List Place} {ats₀ : List ℕ} {g s : ℕ} (ns : List ℕ) {count held : ℕ} {ats : List ℕ}
-    → Counting t x high d n g₀ s₀ places₀ ats₀ g s (placesOf ns) count held ats → length ns ≡ 63
-counting-room ns i = sym (length-places ns) ∙ i .here .room
 
 module _ {t x : List ℕ} {high d n g₀ s₀ : ℕ} {places₀ : List Place} {ats₀ : List ℕ} {g s : ℕ} {places : List Place} {count held : ℕ} {ats : List ℕ}
     (i : Counting t x high d n g₀ s₀ places₀ ats₀ g s places count held ats) where

@@ -3,9 +3,9 @@
 use mathlib.Core.Path.{refl, sym, _∙_}
 use Prim.Native.Nat.{_-_}
 use Rattle.tray.specs.Frame.Code.{cut}
-use Rattle.walk.specs.Code.{placesOf, length-places}
+use Rattle.walk.specs.Code.{placesOf, length-places, places-room}
 use Rattle.walk.specs.Code.Turns.{within, selector-is}
-use Rattle.gathering.specs.Stops.Code.{clear-le, Gathering, gathering-first, gathering-pass, gathering-room, gathering-names, gathered-past, gathered-no-run, gathered-all}
+use Rattle.gathering.specs.Stops.Code.{clear-le, Gathering, gathering-first, gathering-pass, gathering-names, gathered-past, gathered-no-run, gathered-all}
 use native.Mathlib.Omega.{arith}
 use borrow.Author.Needs.{needs}
 use Rattle.gathering.proofs.gather.Statement.{statement}
@@ -60,7 +60,7 @@ mul-q : tie.Need-mul-q Inv-loop μ-loop
 mul-q c = search needs
 
 slice-read-q : tie.Need-slice-read-q Inv-loop μ-loop
-slice-read-q c = omega (arith, gathering-room _ (c .before .before .before .before .before .before .loop .inv), c .before .before .before .before .before .before .before .before .before .before .before .before .before .before .before .before .pre .0 .few, c .before .wide-size3 .ensures, c .before .before .if2 .taken)
+slice-read-q c = omega (arith, places-room _ (c .before .before .before .before .before .before .loop .inv .room), c .before .before .before .before .before .before .before .before .before .before .before .before .before .before .before .before .pre .0 .few, c .before .wide-size3 .ensures, c .before .before .if2 .taken)
 
 mul-if3 : tie.Need-mul-if3 Inv-loop μ-loop
 mul-if3 c = search needs
@@ -102,7 +102,7 @@ mul-places : tie.Need-mul-places Inv-loop μ-loop
 mul-places c = omega arith
 
 slice-write-places : tie.Need-slice-write-places Inv-loop μ-loop
-slice-write-places c = omega (arith, gathering-room _ (c .before .before .before .before .before .before .before .before .before .before .before .loop .inv), c .before .before .before .before .before .before .before .before .before .before .before .before .before .before .before .before .before .before .before .before .before .pre .0 .few, c .before .before .before .before .before .before .wide-size3 .ensures, c .before .before .before .before .before .before .before .if2 .taken)
+slice-write-places c = omega (arith, places-room _ (c .before .before .before .before .before .before .before .before .before .before .before .loop .inv .room), c .before .before .before .before .before .before .before .before .before .before .before .before .before .before .before .before .before .before .before .before .before .pre .0 .few, c .before .before .before .before .before .before .wide-size3 .ensures, c .before .before .before .before .before .before .before .if2 .taken)
 
 add-s-2 : tie.Need-add-s-2 Inv-loop μ-loop
 add-s-2 c = omega arith
@@ -114,7 +114,7 @@ loop-again-2 : tie.Need-loop-again-2 Inv-loop μ-loop
 loop-again-2 c = gathering-names _ (c .before .before .before .before .before .before .before .before .before .before .before .loop .inv) (c .before .before .before .before .before .before .before .before .before .before .before .before .before .before .before .before .before .before .before .before .before .pre .0) (omega (arith, c .before .before .before .before .before .before .before .before .before .before .before .before .wide-size2 .ensures, c .before .before .before .before .before .before .before .before .before .before .loop-test .taken)) (selector-is (c .before .before .before .before .before .before .before .before .before .before .before .before .before .before .before .before .before .before .before .before .before .pre .0) _ _ (c .before .before .before .before .before .before .before .before .before .before .before .before .before .before .segment-at .ensures) (omega (arith, c .before .before .before .before .before .before .before .before .before .before .before .before .before .wide-size .ensures)) refl) (c .before .before .before .before .before .before .before .before .if1 .left) (c .before .before .before .before .before .before .before .if2 .taken) (c .before .before .before .before .before .before .wide-size3 .ensures) (c .before .before .before .if3 .taken) (c .before .before .before .before .before .before .before .before .before .before .before .before .before .before .before .before .before .before .before .before .before .pre .1 .0) (omega (arith, c .before .before .before .before .before .before .before .before .before .before .before .before .before .before .before .before .before .before .before .before .before .pre .1 .1 .3, c .before .before .before .before .before .before .before .before .before .before .before .loop .inv .kept)) refl (c .before .size16 .ensures) (c .clear .ensures)
 
 same-length : tie.Need-same-length Inv-loop μ-loop
-same-length c = gathering-room _ (c .before .before .before .before .before .before .before .before .loop .inv) ∙ sym (c .before .before .before .before .before .before .before .before .before .before .before .before .before .before .before .before .before .before .pre .1 .1 .2)
+same-length c = places-room _ (c .before .before .before .before .before .before .before .before .loop .inv .room) ∙ sym (c .before .before .before .before .before .before .before .before .before .before .before .before .before .before .before .before .before .before .pre .1 .1 .2)
 
 same-length-2 : tie.Need-same-length-2 Inv-loop μ-loop
 same-length-2 c = c .before .before .before .before .before .before .before .before .loop .inv .kept
@@ -123,7 +123,7 @@ returns : tie.Need-returns Inv-loop μ-loop
 returns c = gathered-past _ (c .before .before .before .before .before .before .before .before .loop .inv) (c .before .before .before .before .before .before .before .before .before .before .before .before .before .before .before .before .before .before .pre .0) (omega (arith, c .before .before .before .before .before .before .before .before .before .wide-size2 .ensures, c .before .before .before .before .before .before .before .loop-test .taken)) (selector-is (c .before .before .before .before .before .before .before .before .before .before .before .before .before .before .before .before .before .before .pre .0) _ _ (c .before .before .before .before .before .before .before .before .before .before .before .segment-at .ensures) (omega (arith, c .before .before .before .before .before .before .before .before .before .before .wide-size .ensures)) refl) (c .before .before .before .before .before .if1 .left) (c .before .before .before .before .if2 .taken) (c .before .before .before .wide-size3 .ensures) (c .if3 .left)
 
 same-length-3 : tie.Need-same-length-3 Inv-loop μ-loop
-same-length-3 c = gathering-room _ (c .before .before .before .before .loop .inv) ∙ sym (c .before .before .before .before .before .before .before .before .before .before .before .before .before .before .pre .1 .1 .2)
+same-length-3 c = places-room _ (c .before .before .before .before .loop .inv .room) ∙ sym (c .before .before .before .before .before .before .before .before .before .before .before .before .before .before .pre .1 .1 .2)
 
 same-length-4 : tie.Need-same-length-4 Inv-loop μ-loop
 same-length-4 c = c .before .before .before .before .loop .inv .kept
@@ -132,7 +132,7 @@ returns-2 : tie.Need-returns-2 Inv-loop μ-loop
 returns-2 c = gathered-no-run (c .before .before .before .before .loop .inv) (c .before .before .before .before .before .before .before .before .before .before .before .before .before .before .pre .0) (omega (arith, c .before .before .before .before .before .wide-size2 .ensures, c .before .before .before .loop-test .taken)) (selector-is (c .before .before .before .before .before .before .before .before .before .before .before .before .before .before .pre .0) _ _ (c .before .before .before .before .before .before .before .segment-at .ensures) (omega (arith, c .before .before .before .before .before .before .wide-size .ensures)) refl) (c .before .if1 .left) (c .if2 .left)
 
 same-length-5 : tie.Need-same-length-5 Inv-loop μ-loop
-same-length-5 c = gathering-room _ (c .before .loop .inv) ∙ sym (c .before .before .before .before .before .before .before .before .before .before .before .pre .1 .1 .2)
+same-length-5 c = places-room _ (c .before .loop .inv .room) ∙ sym (c .before .before .before .before .before .before .before .before .before .before .before .pre .1 .1 .2)
 
 same-length-6 : tie.Need-same-length-6 Inv-loop μ-loop
 same-length-6 c = c .before .loop .inv .kept

@@ -3,7 +3,7 @@
 --     Gathering                                            the loop that gathers
 --     gathering-first, gathering-pass, gathering-name      where it begins, and its turns
 --     gathered-no-run, gathered-no-place, gathered-all     its ends
---     gathering-room, gathering-names, gathered-past       the same of places as numbers
+--     gathering-names, gathered-past                       the same of places as numbers
 -- Assumes nothing.
 use mathlib.Core.Path.{_≡_, refl, sym, ap, ap₂, _∙_, subst}
 use Prim.Native.Nat.{ℕ, suc, _+_, _-_, _*_, _/_, _%_, _≤_, _<_}
@@ -22,7 +22,7 @@ use Rattle.tray.specs.Frame.{runCount, startOf, Starts}
 use Rattle.index.specs.Scan.{raise}
 use Rattle.walk.specs.Walk.{selectorAt, named}
 use Rattle.walk.specs.Reads.{unmarked}
-use Rattle.walk.specs.Code.{placed, numbers, placesOf, length-places, getD-places, set-places, raise-numbers, Walking}
+use Rattle.walk.specs.Code.{placed, numbers, placesOf, getD-places, set-places, raise-numbers, Walking}
 use Rattle.walk.specs.Code.Turns.{named-run, named-yes, named-past, place-is}
 use Rattle.gathering.specs.Stops.{stopsIn, stopIn, positionOf, positions, GatheredFrom}
 use Rattle.gathering.specs.Stops.Laws.{stopAt, stops-pass, stops-name, stops-marked, stops-lost, stop-pass, stop-name, stop-lost}
@@ -197,9 +197,6 @@ module _ {t x : List ℕ} {d g s₀ : ℕ} {places₀ : List Place} {before : �
 
 -- the same of places as numbers
 module _ {t x : List ℕ} {d g s₀ : ℕ} {places₀ : List Place} {before : ℕ} {ats₀ : List ℕ} {s : ℕ} (ps : List ℕ) {k : ℕ} {ats : List ℕ} (i : Gathering t x d g s₀ places₀ before ats₀ s (placesOf ps) k ats) where
-  pub gathering-room : length ps ≡ 63
-  gathering-room = sym (length-places ps) ∙ i .room
-
   module _ {h n : ℕ} {counts : List ℕ} (w : Walking t x h d n counts) {v : ℕ} (l : s < d) (read : v ≡ selectorAt (runCount t) x g s) (real : v ≡ 63 → ⊥)
       {j : ℕ} (below : v % 64 < h) (e : j ≡ v % 64) where
     pub gathered-past : getD counts j 0 ≤ getD ps j 0 → GatheredFrom t x d g s₀ places₀ before ats₀ k s ats

@@ -4,12 +4,12 @@ use mathlib.Core.Path.{_≡_, refl, sym, ap, _∙_}
 use Prim.Native.Nat.{_-_}
 use lib.ListN.{length, length-map}
 use Rattle.walk.specs.Reads.{pageVisit}
-use Rattle.walk.specs.Code.{length-numbers, numbers-back, length-places}
+use Rattle.walk.specs.Code.{length-numbers, numbers-back, length-places, places-room}
 use Rattle.walk.specs.Code.Turns.{within, here-end}
 use Rattle.points.specs.Steps.{onward-same, onward-from}
 use Rattle.points.specs.Page.Code.{paging-first, paging-enter}
 use Rattle.gathering.specs.Stops.Laws.{within-none, gathered-within}
-use Rattle.paging.specs.Segments.{BySegments, segments-room, again-same, again-other, again-inside, again-whole, paging-on, paging-lost}
+use Rattle.paging.specs.Segments.{BySegments, again-same, again-other, again-inside, again-whole, paging-on, paging-lost}
 use native.Mathlib.Omega.{arith}
 use borrow.Author.Needs.{needs}
 use Rattle.paging.proofs.page_segments.Statement.{statement}
@@ -34,13 +34,13 @@ wide-size-requires-2 : tie.Need-wide-size-requires-2 Inv-loop μ-loop
 wide-size-requires-2 c κs = search needs
 
 slice-aggregate-gather : tie.Need-slice-aggregate-gather Inv-loop μ-loop
-slice-aggregate-gather c = sym (segments-room (c .before .before .before .before .before .before .before .before .before .before .before .pre .0) (c .before .before .loop .inv))
+slice-aggregate-gather c = sym (places-room _ (c .before .before .loop .inv .paging .here .room))
 
 slice-aggregate-gather-2 : tie.Need-slice-aggregate-gather-2 Inv-loop μ-loop
 slice-aggregate-gather-2 c = search needs
 
 gather-requires : tie.Need-gather-requires Inv-loop μ-loop
-gather-requires c κs = (c .before .before .before .before .before .before .before .before .before .before .before .before .pre .0, (c .before .before .before .before .before .before .before .before .before .before .before .before .pre .1 .0, (c .before .before .before .loop .inv .paging .here .on .inside, omega (arith, c .before .before .before .loop .inv .paging .here .on .high, c .before .before .wide-size2 .ensures), segments-room (c .before .before .before .before .before .before .before .before .before .before .before .before .pre .0) (c .before .before .before .loop .inv), omega (arith, c .before .before .before .before .before .before .before .before .before .before .before .before .pre .1 .1 .2, c .before .before .before .loop .inv .held))))
+gather-requires c κs = (c .before .before .before .before .before .before .before .before .before .before .before .before .pre .0, (c .before .before .before .before .before .before .before .before .before .before .before .before .pre .1 .0, (c .before .before .before .loop .inv .paging .here .on .inside, omega (arith, c .before .before .before .loop .inv .paging .here .on .high, c .before .before .wide-size2 .ensures), places-room _ (c .before .before .before .loop .inv .paging .here .room), omega (arith, c .before .before .before .before .before .before .before .before .before .before .before .before .pre .1 .1 .2, c .before .before .before .loop .inv .held))))
 
 add-if1 : tie.Need-add-if1 Inv-loop μ-loop
 add-if1 c = omega (arith, c .before .before .before .before .before .before .loop .inv .fits, c .before .before .before .before .before .before .loop .inv .paging .room, c .before .before .before .before .before .before .loop .inv .paging .kept, c .before .before .before .before .before .before .before .before .before .before .before .before .before .before .before .good .1 .1 .1 .1 .1 .1 .1 .1 .0 .0, c .before .before .gather .ensures .few, c .before .before .gather .ensures .high)
@@ -94,7 +94,7 @@ slice-aggregate-reload : tie.Need-slice-aggregate-reload Inv-loop μ-loop
 slice-aggregate-reload c = search needs
 
 reload-requires : tie.Need-reload-requires Inv-loop μ-loop
-reload-requires c κs = (omega (arith, within (c .before .before .before .before .before .before .before .before .before .before .before .before .before .before .before .before .before .before .before .before .before .before .before .before .before .pre .0) (c .before .before .if3 .left) (c .before .segment-at .ensures)), c .before .before .before .before .before .before .before .before .before .before .before .before .before .before .before .before .before .before .before .before .before .before .before .before .before .pre .0 .few, c .before .before .before .before .before .before .before .before .before .before .before .before .gather .kept .1 .1 .1 .1 .1 .1 .1 .1 .1 .0 ∙ segments-room (c .before .before .before .before .before .before .before .before .before .before .before .before .before .before .before .before .before .before .before .before .before .before .before .before .before .pre .0) (c .before .before .before .before .before .before .before .before .before .before .before .before .before .before .before .before .loop .inv))
+reload-requires c κs = (omega (arith, within (c .before .before .before .before .before .before .before .before .before .before .before .before .before .before .before .before .before .before .before .before .before .before .before .before .before .pre .0) (c .before .before .if3 .left) (c .before .segment-at .ensures)), c .before .before .before .before .before .before .before .before .before .before .before .before .before .before .before .before .before .before .before .before .before .before .before .before .before .pre .0 .few, c .before .before .before .before .before .before .before .before .before .before .before .before .gather .kept .1 .1 .1 .1 .1 .1 .1 .1 .1 .0 ∙ places-room _ (c .before .before .before .before .before .before .before .before .before .before .before .before .before .before .before .before .loop .inv .paging .here .room))
 
 loop-less : tie.Need-loop-less Inv-loop μ-loop
 loop-less c = omega arith

@@ -1,5 +1,6 @@
 -- What the code of the quick calls needs of the definitions.
 --     walking                          tray and index as the walk asks for them
+--     end-at                           the end of an index as the code has it
 --     told-is                          what the code's walk hands over is seek's answer
 --     frames-tray, -index, -fit        the frames decide
 -- Assumes nothing.
@@ -7,7 +8,6 @@ use mathlib.Core.Path.{_≡_, refl, sym, ap, ap₂, _∙_}
 use Prim.Native.Nat.{ℕ, _-_}
 use mathlib.Core.Bool.{Bool, true, false, cond}
 use mathlib.Core.List.{List, [], _∷_, map}
-use lib.ListN.{replicate}
 use Rattle.refusal.specs.declared.Refusal.{Refusal}
 use Rattle.refusal.specs.declared.Refusal.the-variants.{TrayFrame, IndexFrame}
 use Rattle.theory.specs.Tests.{never}
@@ -27,7 +27,7 @@ use Rattle.walk.specs.Start.{start}
 use Rattle.walk.specs.Walk.{walkSegments}
 use Rattle.walk.specs.Reads.{seek, seekVisit, endSpot}
 use Rattle.walk.specs.Code.{Walking, numbers, spotOf, soughtAs, soughtOf}
-use Rattle.walk.specs.Answers.{cursorOf, seekTold, seekFramed, inFrames, toldAs, toldSeek}
+use Rattle.walk.specs.Answers.{cursorOf, endAt, seekTold, seekFramed, inFrames, toldAs, toldSeek}
 
 -- tray and index as the walk asks for them
 pub walking : {t x : List ℕ} {f : Frame} {d n : ℕ} → Opened t f → Laid t x d n → Walking t x (f .runs) d n (f .counts)
@@ -50,12 +50,16 @@ pub cursor-back : (c : Cursor) → cursorOf (spotOf c) ≡ c
 unfolding cursorOf spotOf
 cursor-back c = ap (λ (ps : List Place). record { segment = c .segment; selector = c .selector; places = ps }) (places-back (c .places))
 
+-- the end of an index as the code has it
+pub end-at : (x : List ℕ) {n : ℕ} → n ≡ segmentCount x → endAt n ≡ cursorOf (endSpot x)
+unfolding cursorOf endSpot
+end-at x e = ap endAt e
+
 -- what the code's walk hands over is seek's answer
 told-as : (x : List ℕ) (n : ℕ) (a : Sight) (c : Cursor) → n ≡ segmentCount x → toldAs n a c ≡ seekTold x (soughtAs a (spotOf c))
 unfolding seekTold soughtAs cursorOf endSpot
 told-as x n (SightFound run place) c e = ap (λ (k : Cursor). record { answer = Found run place; cursor = k }) (sym (cursor-back c))
-told-as x n SightEnd c e =
-    ap (λ (k : ℕ). record { answer = End; cursor = record { segment = record { 0 = k }; selector = 0; places = replicate 63 (record { 0 = 0 }) } }) e
+told-as x n SightEnd c e = ap (λ (k : Cursor). record { answer = End; cursor = k }) (end-at x e)
 told-as x n (SightLost g s) c e = refl
 
 pub told-is : (t x : List ℕ) (key : ℕ) {h d n g : ℕ} {counts : List ℕ} (s : Sought) {r : Seeks} → Walking t x h d n counts → g ≡ start h x key

@@ -21,7 +21,7 @@ use Rattle.tray.specs.declared.Place.{Place}
 use Rattle.index.specs.Layout.{sizeOf, segmentAt, offsetFrom}
 use Rattle.index.specs.Layout.Laws.{getD-listed}
 use Rattle.walk.specs.Walk.{loaded}
-use Rattle.walk.specs.Code.{placed, numbers, getD-numbers, length-numbers, placesOf, numbers-back, length-places, set-places}
+use Rattle.walk.specs.Code.{placed, numbers, getD-numbers, length-numbers, placesOf, numbers-back, set-places}
 
 -- the places on entering the segment that starts at a byte
 unfoldable pub loadedFrom : ℕ → List ℕ → ℕ → List ℕ
@@ -134,9 +134,6 @@ pub reloading-more : {h : ℕ} {x : List ℕ} {at r q v : ℕ} (places : List �
     → Loading h x at (placesOf (set places q v)) q
 reloading-more {h} {x} {at} {r} {q} {v} places c l e m read =
     subst (λ (ps : List Place). Loading h x at ps q) (set-places places q v) (loading-more c l e m read)
-
-pub reloading-room : {h : ℕ} {x : List ℕ} {at r : ℕ} (places : List ℕ) → Loading h x at (placesOf places) r → length places ≡ 63
-reloading-room places c = sym (length-places places) ∙ c .room
 
 pub reloading-end : {h : ℕ} {x : List ℕ} {at r : ℕ} (places : List ℕ) → Loading h x at (placesOf places) r → r ≤ 0 → h ≤ 63 → places ≡ loadedFrom h x at
 reloading-end places c l m = sym (numbers-back places) ∙ loading-end c l m

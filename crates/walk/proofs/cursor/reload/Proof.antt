@@ -2,8 +2,8 @@
 -- Assumes nothing.
 use mathlib.Core.Path.{refl, sym, _∙_}
 use Prim.Native.Nat.{_-_}
-use Rattle.walk.specs.Code.{placesOf}
-use Rattle.walk.specs.Code.Load.{Loading, Clearing, clearing-none, clearing-more, clearing-all, reloading-more, reloading-room, reloading-end}
+use Rattle.walk.specs.Code.{placesOf, places-room}
+use Rattle.walk.specs.Code.Load.{Loading, Clearing, clearing-none, clearing-more, clearing-all, reloading-more, reloading-end}
 use native.Mathlib.Omega.{arith}
 use borrow.Author.Needs.{needs}
 use Rattle.walk.proofs.cursor.reload.Statement.{statement}
@@ -64,7 +64,7 @@ mul-places-2 : tie.Need-mul-places-2 Inv-loop μ-loop Inv-loop2 μ-loop2
 mul-places-2 c = omega (arith, c .before .before .loop2 .inv .high)
 
 slice-write-places-2 : tie.Need-slice-write-places-2 Inv-loop μ-loop Inv-loop2 μ-loop2
-slice-write-places-2 c = omega (arith, c .before .before .loop2 .inv .high, reloading-room _ (c .before .before .loop2 .inv))
+slice-write-places-2 c = omega (arith, c .before .before .loop2 .inv .high, places-room _ (c .before .before .loop2 .inv .room))
 
 loop2-less : tie.Need-loop2-less Inv-loop μ-loop Inv-loop2 μ-loop2
 loop2-less c = omega arith
@@ -73,7 +73,7 @@ loop2-again : tie.Need-loop2-again Inv-loop μ-loop Inv-loop2 μ-loop2
 loop2-again c = reloading-more _ (c .before .before .loop2 .inv) (c .before .loop2-test .taken) refl (c .before .before .before .before .before .before .before .before .pre .1) (c .big2 .ensures)
 
 same-length : tie.Need-same-length Inv-loop μ-loop Inv-loop2 μ-loop2
-same-length c = reloading-room _ (c .before .loop2 .inv) ∙ sym (c .before .before .before .before .before .before .before .pre .2)
+same-length c = places-room _ (c .before .loop2 .inv .room) ∙ sym (c .before .before .before .before .before .before .before .pre .2)
 
 returns : tie.Need-returns Inv-loop μ-loop Inv-loop2 μ-loop2
 returns c = reloading-end _ (c .before .loop2 .inv) (c .loop2-test .left) (c .before .before .before .before .before .before .before .pre .1)
