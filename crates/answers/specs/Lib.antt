@@ -1,4 +1,4 @@
--- What the calls that list answer for every input.
+-- What next, page and sheet answer for every input.
 -- next
 pub mod Next
 -- page, and what it leaves in the output
