@@ -38,7 +38,13 @@ slice-read-p : tie.Need-slice-read-p
 slice-read-p c = search needs
 
 add-p : tie.Need-add-p
-add-p c = let v = place-low (c .before .before .before .before .before .before .before .before .before .before .before .before .pre .0 .caching .reading) (c .before .before .before .before .before .before .before .before .before .before .before .before .pre .1 .0) (c .before .before .before .wide-size .ensures) (c .before .before .before .before .before .before .before .before .before .before .before .before .pre .1 .1) in let k = run-cut (c .before .before .before .before .before .before .before .before .before .before .before .before .pre .0 .caching .reading) (c .before .before .before .before .before .before .before .before .before .before .before .before .pre .1 .0) (c .before .before .before .wide-size .ensures) in omega (arith, k .few)
+add-p c =
+    let wide-size = c .before .before .before .wide-size in
+    let back = c .before .before .before .before .before .before .before .before .before .before .before .before in
+    let pre = back .pre in
+    let heading = back .pre .0 in
+    let v = place-low (heading .caching .reading) (pre .1 .0) (wide-size .ensures) (pre .1 .1) in
+    let k = run-cut (heading .caching .reading) (pre .1 .0) (wide-size .ensures) in omega (arith, k .few)
 
 mul-keys : tie.Need-mul-keys
 mul-keys c = search needs
@@ -53,13 +59,31 @@ slice-write-keys : tie.Need-slice-write-keys
 slice-write-keys c = search needs
 
 sub-key-after : tie.Need-sub-key-after
-sub-key-after c = run-cut (c .before .before .before .before .before .before .before .before .before .before .before .before .before .pre .0 .caching .reading) (c .before .before .before .before .before .before .before .before .before .before .before .before .before .pre .1 .0) (c .before .before .before .before .wide-size .ensures) .start
+sub-key-after c =
+    let back = c .before .before .before .before in
+    let wide-size = back .wide-size in
+    let back = back .before .before .before .before .before .before .before .before .before in
+    let pre = back .pre in
+    let heading = back .pre .0 in
+    run-cut (heading .caching .reading) (pre .1 .0) (wide-size .ensures) .start
 
 part-key-after-start : tie.Need-part-key-after-start
-part-key-after-start c = run-cut (c .before .before .before .before .before .before .before .before .before .before .before .before .before .pre .0 .caching .reading) (c .before .before .before .before .before .before .before .before .before .before .before .before .before .pre .1 .0) (c .before .before .before .before .wide-size .ensures) .start
+part-key-after-start c =
+    let back = c .before .before .before .before in
+    let wide-size = back .wide-size in
+    let back = back .before .before .before .before .before .before .before .before .before in
+    let pre = back .pre in
+    let heading = back .pre .0 in
+    run-cut (heading .caching .reading) (pre .1 .0) (wide-size .ensures) .start
 
 part-key-after-end : tie.Need-part-key-after-end
-part-key-after-end c = run-cut (c .before .before .before .before .before .before .before .before .before .before .before .before .before .pre .0 .caching .reading) (c .before .before .before .before .before .before .before .before .before .before .before .before .before .pre .1 .0) (c .before .before .before .before .wide-size .ensures) .end
+part-key-after-end c =
+    let back = c .before .before .before .before in
+    let wide-size = back .wide-size in
+    let back = back .before .before .before .before .before .before .before .before .before in
+    let pre = back .pre in
+    let heading = back .pre .0 in
+    run-cut (heading .caching .reading) (pre .1 .0) (wide-size .ensures) .end
 
 mul-key-after : tie.Need-mul-key-after
 mul-key-after c = search needs
@@ -68,7 +92,13 @@ shared-slice-read-key-after : tie.Need-shared-slice-read-key-after
 shared-slice-read-key-after c = search needs
 
 key-after-requires : tie.Need-key-after-requires
-key-after-requires c κs = run-cut (c .before .before .before .before .before .before .before .before .before .before .before .before .before .before .before .pre .0 .caching .reading) (c .before .before .before .before .before .before .before .before .before .before .before .before .before .before .before .pre .1 .0) (c .before .before .before .before .before .before .wide-size .ensures) .whole
+key-after-requires c κs =
+    let back = c .before .before .before .before .before .before in
+    let wide-size = back .wide-size in
+    let back = back .before .before .before .before .before .before .before .before .before in
+    let pre = back .pre in
+    let heading = back .pre .0 in
+    run-cut (heading .caching .reading) (pre .1 .0) (wide-size .ensures) .whole
 
 mul-nexts : tie.Need-mul-nexts
 mul-nexts c = search needs
@@ -83,10 +113,25 @@ slice-write-places : tie.Need-slice-write-places
 slice-write-places c = search needs
 
 shared-slice-read-keep : tie.Need-shared-slice-read-keep
-shared-slice-read-keep c = runs-there (c .before .before .before .before .before .before .before .before .before .before .before .before .before .before .before .before .before .before .pre .0 .caching .reading)
+shared-slice-read-keep c =
+    let heading =
+    c .before .before .before .before .before .before .before .before .before .before .before .before .before .before .before .before .before .before
+    .pre .0 in
+    runs-there (heading .caching .reading)
 
 keep-requires : tie.Need-keep-requires
-keep-requires c κs = (simp length-set (c .before .before .before .before .before .before .before .before .before .before .before .before .before .before .before .before .before .before .before .before .pre .0 .caching .padded .room), omega (arith, c .before .before .before .before .before .before .before .before .before .before .before .before .before .before .before .before .before .before .before .before .pre .1 .0, c .before .before .before .before .before .before .before .before .before .before .before .before .before .before .before .before .before .before .before .before .pre .0 .caching .reading .few), c .before .before .before .before .before .before .before .before .before .before .before .before .before .before .before .before .before .before .before .before .pre .0 .leading .room-tops, c .before .before .before .before .before .before .before .before .before .before .before .before .before .before .before .before .before .before .before .before .pre .0 .leading .room-firsts, half-set _ _ (c .before .before .before .before .before .before .before .before .before .before .before .before .before .before .before .before .before .before .before .before .pre .0 .caching .padded) (c .before .before .before .before .before .before .before .before .before .before .before .before .before .before .before .before .before .before .before .before .pre .1 .0) (c .before .before .before .before .before .before .before .before .before .before .before .wide-size .ensures))
+keep-requires c κs =
+    let back = c .before .before .before .before .before .before .before .before .before .before .before in
+    let wide-size = back .wide-size in
+    let back = back .before .before .before .before .before .before .before .before .before in
+    let pre = back .pre in
+    let heading = back .pre .0 in (
+      simp length-set (heading .caching .padded .room),
+      omega (arith, pre .1 .0, heading .caching .reading .few),
+      heading .leading .room-tops,
+      heading .leading .room-firsts,
+      half-set _ _ (heading .caching .padded) (pre .1 .0) (wide-size .ensures),
+    )
 
 same-length : tie.Need-same-length
 same-length c = search needs
@@ -104,7 +149,26 @@ same-length-5 : tie.Need-same-length-5
 same-length-5 c = search needs
 
 returns : tie.Need-returns
-returns c = (raised _ (c .before .before .before .before .before .before .before .before .before .before .before .before .before .before .before .before .wide-size .ensures), moved (c .before .before .before .before .before .before .before .before .before .before .before .before .before .before .before .before .before .before .before .before .before .before .before .before .before .pre .0) (c .before .before .before .before .before .before .before .before .before .before .before .before .before .before .before .before .before .before .before .before .before .before .before .before .before .pre .1 .0) (c .before .before .before .before .before .before .before .before .before .before .before .before .before .before .before .before .wide-size .ensures) refl refl (c .before .before .before .before .before .before .before .before .before .key-after .ensures ∙ after-is (c .before .before .before .before .before .before .before .before .before .before .before .before .before .before .before .before .before .before .before .before .before .before .before .before .before .pre .0 .caching .reading) (c .before .before .before .before .before .before .before .before .before .before .before .before .before .before .before .before .before .before .before .before .before .before .before .before .before .pre .1 .0) (c .before .before .before .before .before .before .before .before .before .before .before .before .before .before .before .before .wide-size .ensures) (run-cut (c .before .before .before .before .before .before .before .before .before .before .before .before .before .before .before .before .before .before .before .before .before .before .before .before .before .pre .0 .caching .reading) (c .before .before .before .before .before .before .before .before .before .before .before .before .before .before .before .before .before .before .before .before .before .before .before .before .before .pre .1 .0) (c .before .before .before .before .before .before .before .before .before .before .before .before .before .before .before .before .wide-size .ensures) .bytes) refl refl) (c .before .before .before .before .keep .ensures))
+returns c =
+    let back = c .before .before .before .before in
+    let keep = back .keep in
+    let back = back .before .before .before .before .before in
+    let key-after = back .key-after in
+    let back = back .before .before .before .before .before .before .before in
+    let wide-size = back .wide-size in
+    let back = back .before .before .before .before .before .before .before .before .before in
+    let pre = back .pre in
+    let heading = back .pre .0 in (
+      raised _ (wide-size .ensures),
+      moved heading
+          (pre .1 .0)
+          (wide-size .ensures)
+          refl refl
+          (key-after .ensures
+          ∙ after-is (heading .caching .reading) (pre .1 .0) (wide-size .ensures)
+          (run-cut (heading .caching .reading) (pre .1 .0) (wide-size .ensures) .bytes) refl refl)
+          (keep .ensures),
+    )
 
 pub advance-spec : {M : Type 1} → statement M
 advance-spec =

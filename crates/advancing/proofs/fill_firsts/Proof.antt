@@ -16,7 +16,9 @@ abbrev μ-loop : tie.MeasureT-loop
 μ-loop keys tops₀ firsts₀ b₀ tops firsts b = 8 - b
 
 loop-holds : tie.Need-loop-holds Inv-loop μ-loop
-loop-holds c = leading-none (c .before .before .before .pre .0) (c .before .before .before .pre .1) (c .before .before .before .pre .2)
+loop-holds c =
+    let pre = c .before .before .before .pre in
+    leading-none (pre .0) (pre .1) (pre .2)
 
 keep-requires : tie.Need-keep-requires Inv-loop μ-loop
 keep-requires c κs = search needs
@@ -28,7 +30,12 @@ loop-less : tie.Need-loop-less Inv-loop μ-loop
 loop-less c = search needs
 
 loop-again : tie.Need-loop-again Inv-loop μ-loop
-loop-again c = leading-more (c .before .before .before .before .before .before .before .before .loop .inv) (c .before .before .before .before .before .before .before .loop-test .taken) (c .before .before .before .before .keep .ensures)
+loop-again c =
+    let back = c .before .before .before .before in
+    let keep = back .keep in
+    let loop-test = back .before .before .before .loop-test in
+    let loop = back .before .before .before .before .loop in
+    leading-more (loop .inv) (loop-test .taken) (keep .ensures)
 
 same-length : tie.Need-same-length Inv-loop μ-loop
 same-length c = search needs
@@ -37,7 +44,9 @@ same-length-2 : tie.Need-same-length-2 Inv-loop μ-loop
 same-length-2 c = search needs
 
 returns : tie.Need-returns Inv-loop μ-loop
-returns c = leading-all (c .before .loop .inv) (c .loop-test .left)
+returns c =
+    let loop = c .before .loop in
+    leading-all (loop .inv) (c .loop-test .left)
 
 pub fill-firsts-spec : {M : Type 1} → statement M
 fill-firsts-spec =

@@ -21,7 +21,9 @@ abbrev μ-loop : tie.MeasureT-loop
 μ-loop t h counts starts places nexts₀ r₀ nexts r = h - r
 
 loop-holds : tie.Need-loop-holds Inv-loop μ-loop
-loop-holds c = nexts-none _ _ (c .before .before .before .before .before .pre .1 .1)
+loop-holds c =
+    let pre = c .before .before .before .before .before .pre in
+    nexts-none _ _ (pre .1 .1)
 
 wide-size-requires : tie.Need-wide-size-requires Inv-loop μ-loop
 wide-size-requires c κs = search needs
@@ -42,13 +44,22 @@ shared-slice-read-e : tie.Need-shared-slice-read-e Inv-loop μ-loop
 shared-slice-read-e c = search needs
 
 sub-key-after : tie.Need-sub-key-after Inv-loop μ-loop
-sub-key-after c = run-cut (c .before .before .before .before .before .before .before .before .before .before .pre .0) (omega arith) (c .before .before .wide-size .ensures) .start
+sub-key-after c =
+    let wide-size = c .before .before .wide-size in
+    let reading = c .before .before .before .before .before .before .before .before .before .before .pre .0 in
+    run-cut reading (omega arith) (wide-size .ensures) .start
 
 part-key-after-start : tie.Need-part-key-after-start Inv-loop μ-loop
-part-key-after-start c = run-cut (c .before .before .before .before .before .before .before .before .before .before .pre .0) (omega arith) (c .before .before .wide-size .ensures) .start
+part-key-after-start c =
+    let wide-size = c .before .before .wide-size in
+    let reading = c .before .before .before .before .before .before .before .before .before .before .pre .0 in
+    run-cut reading (omega arith) (wide-size .ensures) .start
 
 part-key-after-end : tie.Need-part-key-after-end Inv-loop μ-loop
-part-key-after-end c = run-cut (c .before .before .before .before .before .before .before .before .before .before .pre .0) (omega arith) (c .before .before .wide-size .ensures) .end
+part-key-after-end c =
+    let wide-size = c .before .before .wide-size in
+    let reading = c .before .before .before .before .before .before .before .before .before .before .pre .0 in
+    run-cut reading (omega arith) (wide-size .ensures) .end
 
 mul-key-after : tie.Need-mul-key-after Inv-loop μ-loop
 mul-key-after c = search needs
@@ -63,13 +74,20 @@ shared-slice-read-t24 : tie.Need-shared-slice-read-t24 Inv-loop μ-loop
 shared-slice-read-t24 c = search needs
 
 key-after-requires : tie.Need-key-after-requires Inv-loop μ-loop
-key-after-requires c κs = run-cut (c .before .before .before .before .before .before .before .before .before .before .before .before .before .pre .0) (omega arith) (c .before .before .before .before .before .wide-size .ensures) .whole
+key-after-requires c κs =
+    let wide-size = c .before .before .before .before .before .wide-size in
+    let reading = c .before .before .before .before .before .before .before .before .before .before .before .before .before .pre .0 in
+    run-cut reading (omega arith) (wide-size .ensures) .whole
 
 mul-nexts : tie.Need-mul-nexts Inv-loop μ-loop
 mul-nexts c = search needs
 
 slice-write-nexts : tie.Need-slice-write-nexts Inv-loop μ-loop
-slice-write-nexts c = omega (arith, c .before .before .before .before .before .before .before .before .loop .inv .room, c .before .before .before .before .before .before .before .before .before .before .before .before .before .before .pre .0)
+slice-write-nexts c =
+    let back = c .before .before .before .before .before .before .before .before in
+    let loop = back .loop in
+    let reading = back .before .before .before .before .before .before .pre .0 in
+    omega (arith, loop .inv .room, reading)
 
 add-r : tie.Need-add-r Inv-loop μ-loop
 add-r c = search needs
@@ -78,13 +96,32 @@ loop-less : tie.Need-loop-less Inv-loop μ-loop
 loop-less c = omega arith
 
 loop-again : tie.Need-loop-again Inv-loop μ-loop
-loop-again c = nexts-more (c .before .before .before .before .before .before .before .before .loop .inv) (omega (arith, c .before .before .before .before .before .before .before .before .before .before .before .before .before .before .pre .0)) (c .before .before .before .before .before .before .wide-size .ensures) (c .key-after .ensures ∙ after-is (c .before .before .before .before .before .before .before .before .before .before .before .before .before .before .pre .0) (omega arith) (c .before .before .before .before .before .before .wide-size .ensures) (run-cut (c .before .before .before .before .before .before .before .before .before .before .before .before .before .before .pre .0) (omega arith) (c .before .before .before .before .before .before .wide-size .ensures) .bytes) refl (ap (λ j. getD (c .before .before .before .before .before .before .before .before .before .before .before .before .before .before .args .places .now) j 0 + 1) (c .before .before .before .before .before .before .wide-size .ensures)))
+loop-again c =
+    let back = c .before .before .before .before .before .before in
+    let wide-size = back .wide-size in
+    let loop = back .before .before .loop in
+    let back = back .before .before .before .before .before .before .before .before in
+    let args = back .args in
+    let reading = back .pre .0 in
+    nexts-more
+    (loop .inv)
+    (omega (arith, reading))
+    (wide-size .ensures)
+    (c .key-after .ensures
+    ∙ after-is reading (omega arith) (wide-size .ensures) (run-cut reading (omega arith) (wide-size .ensures) .bytes) refl
+    (ap (λ j. getD (args .places .now) j 0 + 1) (wide-size .ensures)))
 
 same-length : tie.Need-same-length Inv-loop μ-loop
-same-length c = omega (arith, c .before .loop .inv .room, c .before .before .before .before .before .before .before .pre .1)
+same-length c =
+    let loop = c .before .loop in
+    let pre = c .before .before .before .before .before .before .before .pre in
+    omega (arith, loop .inv .room, pre .1)
 
 returns : tie.Need-returns Inv-loop μ-loop
-returns c = nexts-all (c .before .loop .inv) (c .before .before .before .before .before .before .before .pre .1 .0) (c .loop-test .left)
+returns c =
+    let loop = c .before .loop in
+    let pre = c .before .before .before .before .before .before .before .pre in
+    nexts-all (loop .inv) (pre .1 .0) (c .loop-test .left)
 
 pub fill-nexts-spec : {M : Type 1} → statement M
 fill-nexts-spec =

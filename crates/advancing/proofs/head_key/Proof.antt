@@ -8,7 +8,9 @@ key-at-requires : tie.Need-key-at-requires
 key-at-requires c κs = omega arith
 
 returns : tie.Need-returns
-returns c = key-has _ (c .before .if1 .taken) (c .key-at .ensures)
+returns c =
+    let if1 = c .before .if1 in
+    key-has _ (if1 .taken) (c .key-at .ensures)
 
 returns-2 : tie.Need-returns-2
 returns-2 c = key-past _ (c .if1 .left)

@@ -13,7 +13,9 @@ slice-reshare-prefix-write-all : tie.Need-slice-reshare-prefix-write-all
 slice-reshare-prefix-write-all c = search needs
 
 slice-aggregate-write-all : tie.Need-slice-aggregate-write-all
-slice-aggregate-write-all c = sym (length-take-le _ _ (omega (arith, c .before .before .before .before .before .before .before .before .before .before .before .finish .ensures .0 .filled-fits, c .before .before .before .before .before .before .before .before .before .before .before .finish .ensures .0 .output-room)))
+slice-aggregate-write-all c =
+    let finish = c .before .before .before .before .before .before .before .before .before .before .before .finish in
+    sym (length-take-le _ _ (omega (arith, finish .ensures .0 .filled-fits, finish .ensures .0 .output-room)))
 
 write-all-requires : tie.Need-write-all-requires
 write-all-requires c κs = search needs

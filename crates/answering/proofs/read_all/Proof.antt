@@ -18,10 +18,14 @@ begin-requires : tie.Need-begin-requires Inv-loop μ-loop
 begin-requires c κs = tt
 
 loop-holds : tie.Need-loop-holds Inv-loop μ-loop
-loop-holds c = (ready-first (c .begin .ensures) (c .before .before .before .before .before .before .before .before .pre), refl)
+loop-holds c =
+    let buffers = c .before .before .before .before .before .before .before .before .pre in
+    (ready-first (c .begin .ensures) buffers, refl)
 
 read-some-requires : tie.Need-read-some-requires Inv-loop μ-loop
-read-some-requires c κs = c .before .before .before .before .before .before .before .before .loop .inv .0
+read-some-requires c κs =
+    let loop = c .before .before .before .before .before .before .before .before .loop in
+    loop .inv .0
 
 sub-turns : tie.Need-sub-turns Inv-loop μ-loop
 sub-turns c = omega arith
@@ -30,52 +34,117 @@ loop-less : tie.Need-loop-less Inv-loop μ-loop
 loop-less c = omega arith
 
 loop-again : tie.Need-loop-again Inv-loop μ-loop
-loop-again c = (c .before .before .before .before .before .before .before .before .before .before .before .before .before .before .before .before .read-some .ensures (c .before .if1 .taken), omega (arith, c .before .before .before .before .before .before .before .before .before .before .before .before .before .before .before .before .read-some .kept, c .before .before .before .before .before .before .before .before .before .before .before .before .before .before .before .before .before .before .before .before .before .before .before .before .before .loop .inv .1))
+loop-again c =
+    let if1 = c .before .if1 in
+    let back = c .before .before .before .before .before .before .before .before .before .before .before .before .before .before .before .before in
+    let read-some = back .read-some in
+    let loop = back .before .before .before .before .before .before .before .before .before .loop in
+    (read-some .ensures (if1 .taken), omega (arith, read-some .kept, loop .inv .1))
 
 same-length : tie.Need-same-length Inv-loop μ-loop
-same-length c = omega (arith, c .before .before .before .before .before .before .before .before .before .before .before .before .before .before .before .read-some .kept, c .before .before .before .before .before .before .before .before .before .before .before .before .before .before .before .before .before .before .before .before .before .before .before .before .loop .inv .1)
+same-length c =
+    let back = c .before .before .before .before .before .before .before .before .before .before .before .before .before .before .before in
+    let read-some = back .read-some in
+    let loop = back .before .before .before .before .before .before .before .before .before .loop in
+    omega (arith, read-some .kept, loop .inv .1)
 
 same-length-2 : tie.Need-same-length-2 Inv-loop μ-loop
-same-length-2 c = omega (arith, c .before .before .before .before .before .before .before .before .before .before .before .before .before .before .before .read-some .kept, c .before .before .before .before .before .before .before .before .before .before .before .before .before .before .before .before .before .before .before .before .before .before .before .before .loop .inv .0 .line-room, c .before .before .before .before .before .before .before .before .before .before .before .before .before .before .before .before .before .before .before .before .before .before .before .before .before .before .before .before .before .before .before .before .before .pre .line-room)
+same-length-2 c =
+    let back = c .before .before .before .before .before .before .before .before .before .before .before .before .before .before .before in
+    let read-some = back .read-some in
+    let back = back .before .before .before .before .before .before .before .before .before in
+    let loop = back .loop in
+    let buffers = back .before .before .before .before .before .before .before .before .before .pre in
+    omega (arith, read-some .kept, loop .inv .0 .line-room, buffers .line-room)
 
 same-length-3 : tie.Need-same-length-3 Inv-loop μ-loop
-same-length-3 c = omega (arith, c .before .before .before .before .before .before .before .before .before .before .before .before .before .before .before .read-some .kept, c .before .before .before .before .before .before .before .before .before .before .before .before .before .before .before .before .before .before .before .before .before .before .before .before .loop .inv .0 .rooms .tray-room, c .before .before .before .before .before .before .before .before .before .before .before .before .before .before .before .before .before .before .before .before .before .before .before .before .before .before .before .before .before .before .before .before .before .pre .tray-room)
+same-length-3 c =
+    let back = c .before .before .before .before .before .before .before .before .before .before .before .before .before .before .before in
+    let read-some = back .read-some in
+    let back = back .before .before .before .before .before .before .before .before .before in
+    let loop = back .loop in
+    let buffers = back .before .before .before .before .before .before .before .before .before .pre in
+    omega (arith, read-some .kept, loop .inv .0 .rooms .tray-room, buffers .tray-room)
 
 same-length-4 : tie.Need-same-length-4 Inv-loop μ-loop
-same-length-4 c = omega (arith, c .before .before .before .before .before .before .before .before .before .before .before .before .before .before .before .read-some .kept, c .before .before .before .before .before .before .before .before .before .before .before .before .before .before .before .before .before .before .before .before .before .before .before .before .loop .inv .0 .rooms .index-room, c .before .before .before .before .before .before .before .before .before .before .before .before .before .before .before .before .before .before .before .before .before .before .before .before .before .before .before .before .before .before .before .before .before .pre .index-room)
+same-length-4 c =
+    let back = c .before .before .before .before .before .before .before .before .before .before .before .before .before .before .before in
+    let read-some = back .read-some in
+    let back = back .before .before .before .before .before .before .before .before .before in
+    let loop = back .loop in
+    let buffers = back .before .before .before .before .before .before .before .before .before .pre in
+    omega (arith, read-some .kept, loop .inv .0 .rooms .index-room, buffers .index-room)
 
 same-length-5 : tie.Need-same-length-5 Inv-loop μ-loop
-same-length-5 c = omega (arith, c .before .before .before .before .before .before .before .before .before .before .before .before .before .before .before .read-some .kept, c .before .before .before .before .before .before .before .before .before .before .before .before .before .before .before .before .before .before .before .before .before .before .before .before .loop .inv .0 .rooms .frame-room, c .before .before .before .before .before .before .before .before .before .before .before .before .before .before .before .before .before .before .before .before .before .before .before .before .before .before .before .before .before .before .before .before .before .pre .frame-room)
+same-length-5 c =
+    let back = c .before .before .before .before .before .before .before .before .before .before .before .before .before .before .before in
+    let read-some = back .read-some in
+    let back = back .before .before .before .before .before .before .before .before .before in
+    let loop = back .loop in
+    let buffers = back .before .before .before .before .before .before .before .before .before .pre in
+    omega (arith, read-some .kept, loop .inv .0 .rooms .frame-room, buffers .frame-room)
 
 same-length-6 : tie.Need-same-length-6 Inv-loop μ-loop
-same-length-6 c = omega (arith, c .before .before .before .before .before .before .before .before .before .before .before .before .before .before .before .read-some .kept, c .before .before .before .before .before .before .before .before .before .before .before .before .before .before .before .before .before .before .before .before .before .before .before .before .loop .inv .0 .rooms .listing-room, c .before .before .before .before .before .before .before .before .before .before .before .before .before .before .before .before .before .before .before .before .before .before .before .before .before .before .before .before .before .before .before .before .before .pre .listing-room)
+same-length-6 c =
+    let back = c .before .before .before .before .before .before .before .before .before .before .before .before .before .before .before in
+    let read-some = back .read-some in
+    let back = back .before .before .before .before .before .before .before .before .before in
+    let loop = back .loop in
+    let buffers = back .before .before .before .before .before .before .before .before .before .pre in
+    omega (arith, read-some .kept, loop .inv .0 .rooms .listing-room, buffers .listing-room)
 
 same-length-7 : tie.Need-same-length-7 Inv-loop μ-loop
-same-length-7 c = omega (arith, c .before .before .before .before .before .before .before .before .before .before .before .before .before .before .before .read-some .kept, c .before .before .before .before .before .before .before .before .before .before .before .before .before .before .before .before .before .before .before .before .before .before .before .before .loop .inv .0 .rooms .output-room, c .before .before .before .before .before .before .before .before .before .before .before .before .before .before .before .before .before .before .before .before .before .before .before .before .before .before .before .before .before .before .before .before .before .pre .output-room)
+same-length-7 c =
+    let back = c .before .before .before .before .before .before .before .before .before .before .before .before .before .before .before in
+    let read-some = back .read-some in
+    let back = back .before .before .before .before .before .before .before .before .before in
+    let loop = back .loop in
+    let buffers = back .before .before .before .before .before .before .before .before .before .pre in
+    omega (arith, read-some .kept, loop .inv .0 .rooms .output-room, buffers .output-room)
 
 returns : tie.Need-returns Inv-loop μ-loop
 returns c = tt
 
 same-length-8 : tie.Need-same-length-8 Inv-loop μ-loop
-same-length-8 c = c .before .loop .inv .1
+same-length-8 c =
+    let loop = c .before .loop in
+    loop .inv .1
 
 same-length-9 : tie.Need-same-length-9 Inv-loop μ-loop
-same-length-9 c = c .before .loop .inv .0 .line-room ∙ sym (c .before .before .before .before .before .before .before .before .before .before .pre .line-room)
+same-length-9 c =
+    let loop = c .before .loop in
+    let buffers = c .before .before .before .before .before .before .before .before .before .before .pre in
+    loop .inv .0 .line-room ∙ sym (buffers .line-room)
 
 same-length-10 : tie.Need-same-length-10 Inv-loop μ-loop
-same-length-10 c = c .before .loop .inv .0 .rooms .tray-room ∙ sym (c .before .before .before .before .before .before .before .before .before .before .pre .tray-room)
+same-length-10 c =
+    let loop = c .before .loop in
+    let buffers = c .before .before .before .before .before .before .before .before .before .before .pre in
+    loop .inv .0 .rooms .tray-room ∙ sym (buffers .tray-room)
 
 same-length-11 : tie.Need-same-length-11 Inv-loop μ-loop
-same-length-11 c = c .before .loop .inv .0 .rooms .index-room ∙ sym (c .before .before .before .before .before .before .before .before .before .before .pre .index-room)
+same-length-11 c =
+    let loop = c .before .loop in
+    let buffers = c .before .before .before .before .before .before .before .before .before .before .pre in
+    loop .inv .0 .rooms .index-room ∙ sym (buffers .index-room)
 
 same-length-12 : tie.Need-same-length-12 Inv-loop μ-loop
-same-length-12 c = c .before .loop .inv .0 .rooms .frame-room ∙ sym (c .before .before .before .before .before .before .before .before .before .before .pre .frame-room)
+same-length-12 c =
+    let loop = c .before .loop in
+    let buffers = c .before .before .before .before .before .before .before .before .before .before .pre in
+    loop .inv .0 .rooms .frame-room ∙ sym (buffers .frame-room)
 
 same-length-13 : tie.Need-same-length-13 Inv-loop μ-loop
-same-length-13 c = c .before .loop .inv .0 .rooms .listing-room ∙ sym (c .before .before .before .before .before .before .before .before .before .before .pre .listing-room)
+same-length-13 c =
+    let loop = c .before .loop in
+    let buffers = c .before .before .before .before .before .before .before .before .before .before .pre in
+    loop .inv .0 .rooms .listing-room ∙ sym (buffers .listing-room)
 
 same-length-14 : tie.Need-same-length-14 Inv-loop μ-loop
-same-length-14 c = c .before .loop .inv .0 .rooms .output-room ∙ sym (c .before .before .before .before .before .before .before .before .before .before .pre .output-room)
+same-length-14 c =
+    let loop = c .before .loop in
+    let buffers = c .before .before .before .before .before .before .before .before .before .before .pre in
+    loop .inv .0 .rooms .output-room ∙ sym (buffers .output-room)
 
 returns-2 : tie.Need-returns-2 Inv-loop μ-loop
 returns-2 c = tt

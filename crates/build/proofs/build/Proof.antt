@@ -17,25 +17,91 @@ enum-known-r : tie.Need-enum-known-r
 enum-known-r c = search needs
 
 returns : tie.Need-returns
-returns c = (answer-refused (c .before .before .before .before .before .before .before .before .before .before .args .t .now) (c .before .before .before .before .before .before .before .before .before .before .args .d) _ (c .before .before .before .before .before .before .before .tray-frame .ensures) (c .before .before .before .before .before .before .if1 .taken) (c .before .before .before .before .before .if2 .taken) (c .before .before .before .before .if3 .taken) (sym (c .before .r .given .1) ∙ c .before .before .before .check-tray .ensures), leaves-same _ _ _ _)
+returns c =
+    let r = c .before .r in
+    let back = c .before .before .before in
+    let check-tray = back .check-tray in
+    let if3 = back .before .if3 in
+    let if2 = back .before .before .if2 in
+    let if1 = back .before .before .before .if1 in
+    let tray-frame = back .before .before .before .before .tray-frame in
+    let args = back .before .before .before .before .before .before .before .args in (
+      answer-refused
+          (args .t .now)
+          (args .d)
+          _
+          (tray-frame .ensures)
+          (if1 .taken)
+          (if2 .taken)
+          (if3 .taken)
+          (sym (r .given .1) ∙ check-tray .ensures),
+      leaves-same _ _ _ _,
+    )
 
 enum-known-n : tie.Need-enum-known-n
 enum-known-n c = search needs
 
 build-sound-requires : tie.Need-build-sound-requires
-build-sound-requires c κs = sounded-is (c .before .before .before .before .before .before .before .before .before .before .before .args .t .now) (c .before .before .before .before .before .before .before .before .before .before .before .args .d) 0 (c .before .before .before .before .before .before .before .before .tray-frame .ensures) (c .before .before .before .before .before .before .before .if1 .taken) (c .before .before .before .before .before .before .if2 .taken) (c .before .before .before .before .before .if3 .taken) (sym (c .before .before .n .given .1) ∙ c .before .before .before .before .check-tray .ensures)
+build-sound-requires c κs =
+    let back = c .before .before in
+    let n = back .n in
+    let back = back .before .before in
+    let check-tray = back .check-tray in
+    let if3 = back .before .if3 in
+    let if2 = back .before .before .if2 in
+    let if1 = back .before .before .before .if1 in
+    let tray-frame = back .before .before .before .before .tray-frame in
+    let args = back .before .before .before .before .before .before .before .args in
+    sounded-is (args .t .now) (args .d) 0 (tray-frame .ensures) (if1 .taken) (if2 .taken) (if3 .taken) (sym (n .given .1) ∙ check-tray .ensures)
 
 same-length : tie.Need-same-length
-same-length c = omega (arith, c .before .before .build-sound .kept)
+same-length c =
+    let build-sound = c .before .before .build-sound in
+    omega (arith, build-sound .kept)
 
 returns-2 : tie.Need-returns-2
-returns-2 c = (answer-sound (c .before .before .before .before .before .before .before .before .before .before .before .before .before .before .args .t .now) (c .before .before .before .before .before .before .before .before .before .before .before .before .before .before .args .d) _ (c .before .before .before .before .before .before .before .before .before .before .before .tray-frame .ensures) (c .before .before .before .before .before .before .before .before .before .before .if1 .taken) (c .before .before .before .before .before .before .before .before .before .if2 .taken) (c .before .before .before .before .before .before .before .before .if3 .taken) (sym (c .before .before .before .before .before .n .given .1) ∙ c .before .before .before .before .before .before .before .check-tray .ensures) (c .before .before .build-sound .ensures .0), c .before .before .build-sound .ensures .1)
+returns-2 c =
+    let back = c .before .before in
+    let build-sound = back .build-sound in
+    let back = back .before .before .before in
+    let n = back .n in
+    let back = back .before .before in
+    let check-tray = back .check-tray in
+    let if3 = back .before .if3 in
+    let if2 = back .before .before .if2 in
+    let if1 = back .before .before .before .if1 in
+    let tray-frame = back .before .before .before .before .tray-frame in
+    let args = back .before .before .before .before .before .before .before .args in (
+      answer-sound
+          (args .t .now)
+          (args .d)
+          _
+          (tray-frame .ensures)
+          (if1 .taken)
+          (if2 .taken)
+          (if3 .taken)
+          (sym (n .given .1) ∙ check-tray .ensures)
+          (build-sound .ensures .0),
+      build-sound .ensures .1,
+    )
 
 returns-3 : tie.Need-returns-3
-returns-3 c = (⊎-elim (λ w. answer-high (c .before .before .before .before .before .args .t .now) (c .before .before .before .before .before .args .d) _ (c .before .before .tray-frame .ensures) (c .before .if1 .taken) (w .0 .taken) (w .1 .left)) (λ w. answer-low (c .before .before .before .before .before .args .t .now) (c .before .before .before .before .before .args .d) _ (c .before .before .tray-frame .ensures) (c .before .if1 .taken) (w .left)) (c .if2 .came), leaves-same _ _ _ _)
+returns-3 c =
+    let if1 = c .before .if1 in
+    let tray-frame = c .before .before .tray-frame in
+    let args = c .before .before .before .before .before .args in (
+      ⊎-elim
+          (λ w. answer-high (args .t .now) (args .d) _ (tray-frame .ensures) (if1 .taken) (w .0 .taken) (w .1 .left))
+          (λ w. answer-low (args .t .now) (args .d) _ (tray-frame .ensures) (if1 .taken) (w .left))
+          (c .if2 .came),
+      leaves-same _ _ _ _,
+    )
 
 returns-4 : tie.Need-returns-4
-returns-4 c = (answer-frame (c .before .before .before .before .args .t .now) _ _ (c .before .tray-frame .ensures) (c .if1 .left), leaves-same _ _ _ _)
+returns-4 c =
+    let tray-frame = c .before .tray-frame in
+    let args = c .before .before .before .before .args in
+    (answer-frame (args .t .now) _ _ (tray-frame .ensures) (c .if1 .left), leaves-same _ _ _ _)
 
 pub build-spec : {M : Type 1} → statement M
 build-spec =

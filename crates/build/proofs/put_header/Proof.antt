@@ -22,10 +22,15 @@ put4-requires : tie.Need-put4-requires
 put4-requires c κs = simp length-set (omega arith)
 
 same-length : tie.Need-same-length
-same-length c = c .before .before .put4 .kept .0 ∙ simp length-set
+same-length c =
+    let put4-out-kept = c .before .before .put4 .kept .0 in
+    put4-out-kept ∙ simp length-set
 
 returns : tie.Need-returns
-returns c = c .before .before .put4 .ensures ∙ header-is _ _ _ _ (c .before .before .before .before .before .pre)
+returns c =
+    let put4 = c .before .before .put4 in
+    let pre = c .before .before .before .before .before .pre in
+    put4 .ensures ∙ header-is _ _ _ _ pre
 
 pub put-header-spec : {M : Type 1} → statement M
 put-header-spec =

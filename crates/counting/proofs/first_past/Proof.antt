@@ -16,16 +16,30 @@ abbrev μ-loop : tie.MeasureT-loop
 μ-loop t ats from to high i₀ i = to - i
 
 loop-holds : tie.Need-loop-holds Inv-loop μ-loop
-loop-holds c = seeking-first _ _ _ (c .before .before .pre .1 .0)
+loop-holds c =
+    let pre = c .before .before .pre in
+    seeking-first _ _ _ (pre .1 .0)
 
 mul-a : tie.Need-mul-a Inv-loop μ-loop
-mul-a c = omega (arith, c .loop-test .taken, c .before .before .before .before .pre .1 .1, c .before .before .before .before .good .1 .0 .0)
+mul-a c =
+    let ats-good = c .before .before .before .before .good .1 .0 in
+    let pre = c .before .before .before .before .pre in
+    omega (arith, c .loop-test .taken, pre .1 .1, ats-good .0)
 
 shared-slice-read-a : tie.Need-shared-slice-read-a Inv-loop μ-loop
-shared-slice-read-a c = omega (arith, c .before .loop-test .taken, c .before .before .before .before .before .pre .1 .1)
+shared-slice-read-a c =
+    let loop-test = c .before .loop-test in
+    let pre = c .before .before .before .before .before .pre in
+    omega (arith, loop-test .taken, pre .1 .1)
 
 add-key-at : tie.Need-add-key-at Inv-loop μ-loop
-add-key-at c = omega (arith, within-at _ _ (c .before .before .before .before .before .pre .0) _ (c .before .loop-test .taken) (c .before .before .before .before .before .pre .1 .1), c .before .before .before .before .before .good .0 .0)
+add-key-at c =
+    let loop-test = c .before .loop-test in
+    let back = c .before .before .before .before .before in
+    let t-good = back .good .0 in
+    let pre = back .pre in
+    let within = back .pre .0 in
+    omega (arith, within-at _ _ within _ (loop-test .taken) (pre .1 .1), t-good .0)
 
 sub-key-at : tie.Need-sub-key-at Inv-loop μ-loop
 sub-key-at c = omega arith
@@ -34,13 +48,25 @@ part-key-at-start : tie.Need-part-key-at-start Inv-loop μ-loop
 part-key-at-start c = omega arith
 
 part-key-at-end : tie.Need-part-key-at-end Inv-loop μ-loop
-part-key-at-end c = omega (arith, within-at _ _ (c .before .before .before .before .before .pre .0) _ (c .before .loop-test .taken) (c .before .before .before .before .before .pre .1 .1))
+part-key-at-end c =
+    let loop-test = c .before .loop-test in
+    let pre = c .before .before .before .before .before .pre in
+    let within = c .before .before .before .before .before .pre .0 in
+    omega (arith, within-at _ _ within _ (loop-test .taken) (pre .1 .1))
 
 key-at-requires : tie.Need-key-at-requires Inv-loop μ-loop
-key-at-requires c κs = part-long _ _ refl (within-at _ _ (c .before .before .before .before .before .before .pre .0) _ (c .before .before .loop-test .taken) (c .before .before .before .before .before .before .pre .1 .1))
+key-at-requires c κs =
+    let loop-test = c .before .before .loop-test in
+    let pre = c .before .before .before .before .before .before .pre in
+    let within = c .before .before .before .before .before .before .pre .0 in
+    part-long _ _ refl (within-at _ _ within _ (loop-test .taken) (pre .1 .1))
 
 returns : tie.Need-returns Inv-loop μ-loop
-returns c = past-here (c .before .before .before .before .before .loop .inv) (c .before .before .before .before .loop-test .taken) refl (c .before .key-at .ensures) (c .if1 .taken)
+returns c =
+    let key-at = c .before .key-at in
+    let loop-test = c .before .before .before .before .loop-test in
+    let loop = c .before .before .before .before .before .loop in
+    past-here (loop .inv) (loop-test .taken) refl (key-at .ensures) (c .if1 .taken)
 
 add-i : tie.Need-add-i Inv-loop μ-loop
 add-i c = omega arith
@@ -49,10 +75,16 @@ loop-less : tie.Need-loop-less Inv-loop μ-loop
 loop-less c = omega arith
 
 loop-again : tie.Need-loop-again Inv-loop μ-loop
-loop-again c = seeking-more (c .before .before .before .before .before .loop .inv) (c .before .before .before .before .loop-test .taken) refl (c .before .key-at .ensures) (c .if1 .left)
+loop-again c =
+    let key-at = c .before .key-at in
+    let loop-test = c .before .before .before .before .loop-test in
+    let loop = c .before .before .before .before .before .loop in
+    seeking-more (loop .inv) (loop-test .taken) refl (key-at .ensures) (c .if1 .left)
 
 returns-2 : tie.Need-returns-2 Inv-loop μ-loop
-returns-2 c = past-end (c .before .loop .inv) (c .loop-test .left)
+returns-2 c =
+    let loop = c .before .loop in
+    past-end (loop .inv) (c .loop-test .left)
 
 pub first-past-spec : {M : Type 1} → statement M
 first-past-spec =

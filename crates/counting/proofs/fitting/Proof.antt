@@ -8,10 +8,14 @@ sub-if1 : tie.Need-sub-if1
 sub-if1 c = search needs
 
 returns : tie.Need-returns
-returns c = fitting-none (c .before .pre .0) (c .before .pre .1) (c .if1 .taken)
+returns c =
+    let pre = c .before .pre in
+    fitting-none (pre .0) (pre .1) (c .if1 .taken)
 
 returns-2 : tie.Need-returns-2
-returns-2 c = fitting-held (c .before .pre .0) (c .if1 .left)
+returns-2 c =
+    let pre = c .before .pre in
+    fitting-held (pre .0) (c .if1 .left)
 
 pub fitting-spec : {M : Type 1} → statement M
 fitting-spec = tie.close (tie.spec sub-if1 returns returns-2)

@@ -24,7 +24,11 @@ fault-requires : tie.Need-fault-requires Inv-loop μ-loop
 fault-requires c κs = search needs
 
 add-faults : tie.Need-add-faults Inv-loop μ-loop
-add-faults c = omega (arith, c .before .before .before .loop .inv .few, c .fault .ensures, fault-low (getD (c .before .before .before .before .before .args .line .now) (c .before .before .before .loop .i) 0), c .before .before .before .before .before .pre)
+add-faults c =
+    let loop = c .before .before .before .loop in
+    let args = c .before .before .before .before .before .args in
+    let pre = c .before .before .before .before .before .pre in
+    omega (arith, loop .inv .few, c .fault .ensures, fault-low (getD (args .line .now) (loop .i) 0), pre)
 
 add-i : tie.Need-add-i Inv-loop μ-loop
 add-i c = omega arith
@@ -33,10 +37,14 @@ loop-less : tie.Need-loop-less Inv-loop μ-loop
 loop-less c = omega arith
 
 loop-again : tie.Need-loop-again Inv-loop μ-loop
-loop-again c = counting-more (c .before .before .before .loop .inv) (omega arith) (c .fault .ensures)
+loop-again c =
+    let loop = c .before .before .before .loop in
+    counting-more (loop .inv) (omega arith) (c .fault .ensures)
 
 returns : tie.Need-returns Inv-loop μ-loop
-returns c = counting-end (c .before .loop .inv) (omega arith)
+returns c =
+    let loop = c .before .loop in
+    counting-end (loop .inv) (omega arith)
 
 pub all-digits-spec : {M : Type 1} → statement M
 all-digits-spec =

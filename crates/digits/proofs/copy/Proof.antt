@@ -22,7 +22,10 @@ shared-slice-read-to : tie.Need-shared-slice-read-to Inv-loop μ-loop
 shared-slice-read-to c = search needs
 
 slice-write-to : tie.Need-slice-write-to Inv-loop μ-loop
-slice-write-to c = omega (arith, c .before .before .loop .inv .room, c .before .before .before .pre)
+slice-write-to c =
+    let loop = c .before .before .loop in
+    let pre = c .before .before .before .pre in
+    omega (arith, loop .inv .room, pre)
 
 add-i : tie.Need-add-i Inv-loop μ-loop
 add-i c = omega arith
@@ -31,13 +34,20 @@ loop-less : tie.Need-loop-less Inv-loop μ-loop
 loop-less c = omega arith
 
 loop-again : tie.Need-loop-again Inv-loop μ-loop
-loop-again c = filling-more (c .before .before .loop .inv) (omega arith) (omega (arith, c .before .before .loop .inv .room, c .before .before .before .pre)) refl
+loop-again c =
+    let loop = c .before .before .loop in
+    let pre = c .before .before .before .pre in
+    filling-more (loop .inv) (omega arith) (omega (arith, loop .inv .room, pre)) refl
 
 same-length : tie.Need-same-length Inv-loop μ-loop
-same-length c = c .before .loop .inv .room
+same-length c =
+    let loop = c .before .loop in
+    loop .inv .room
 
 returns : tie.Need-returns Inv-loop μ-loop
-returns c = filling-end (c .before .loop .inv) (omega arith) ∙ ap (put _ 0) (listed-list _)
+returns c =
+    let loop = c .before .loop in
+    filling-end (loop .inv) (omega arith) ∙ ap (put _ 0) (listed-list _)
 
 pub copy-spec : {M : Type 1} → statement M
 copy-spec =

@@ -25,7 +25,9 @@ shared-slice-read-digit-of : tie.Need-shared-slice-read-digit-of Inv-loop μ-loo
 shared-slice-read-digit-of c = omega arith
 
 digit-of-requires : tie.Need-digit-of-requires Inv-loop μ-loop
-digit-of-requires c κs = allDigits-at _ (c .before .before .before .before .before .pre .0) _ (omega arith)
+digit-of-requires c κs =
+    let pre = c .before .before .before .before .before .pre in
+    allDigits-at _ (pre .0) _ (omega arith)
 
 mul-frame : tie.Need-mul-frame Inv-loop μ-loop
 mul-frame c = omega (arith, c .digit-of .ensures)
@@ -40,13 +42,20 @@ shared-slice-read-digit-of-2 : tie.Need-shared-slice-read-digit-of-2 Inv-loop μ
 shared-slice-read-digit-of-2 c = omega arith
 
 digit-of-requires-2 : tie.Need-digit-of-requires-2 Inv-loop μ-loop
-digit-of-requires-2 c κs = allDigits-at _ (c .before .before .before .before .before .before .before .pre .0) _ (omega arith)
+digit-of-requires-2 c κs =
+    let pre = c .before .before .before .before .before .before .before .pre in
+    allDigits-at _ (pre .0) _ (omega arith)
 
 add-frame : tie.Need-add-frame Inv-loop μ-loop
-add-frame c = omega (arith, c .before .before .digit-of .ensures, c .digit-of2 .ensures)
+add-frame c =
+    let digit-of = c .before .before .digit-of in
+    omega (arith, digit-of .ensures, c .digit-of2 .ensures)
 
 slice-write-frame : tie.Need-slice-write-frame Inv-loop μ-loop
-slice-write-frame c = omega (arith, c .before .before .before .before .before .loop .inv .room, c .before .before .before .before .before .before .before .before .pre)
+slice-write-frame c =
+    let loop = c .before .before .before .before .before .loop in
+    let pre = c .before .before .before .before .before .before .before .before .pre in
+    omega (arith, loop .inv .room, pre)
 
 add-i : tie.Need-add-i Inv-loop μ-loop
 add-i c = omega arith
@@ -55,13 +64,25 @@ loop-less : tie.Need-loop-less Inv-loop μ-loop
 loop-less c = omega arith
 
 loop-again : tie.Need-loop-again Inv-loop μ-loop
-loop-again c = filling-more (c .before .before .before .before .before .loop .inv) (omega arith) (omega (arith, c .before .before .before .before .before .loop .inv .room, c .before .before .before .before .before .before .before .before .pre)) (ap₂ (λ h l. h * 16 + l) (c .before .before .digit-of .ensures .0) (c .digit-of2 .ensures .0))
+loop-again c =
+    let digit-of = c .before .before .digit-of in
+    let loop = c .before .before .before .before .before .loop in
+    let pre = c .before .before .before .before .before .before .before .before .pre in
+    filling-more
+    (loop .inv)
+    (omega arith)
+    (omega (arith, loop .inv .room, pre))
+    (ap₂ (λ h l. h * 16 + l) (digit-of .ensures .0) (c .digit-of2 .ensures .0))
 
 same-length : tie.Need-same-length Inv-loop μ-loop
-same-length c = c .before .loop .inv .room
+same-length c =
+    let loop = c .before .loop in
+    loop .inv .room
 
 returns : tie.Need-returns Inv-loop μ-loop
-returns c = filling-end (c .before .loop .inv) (omega arith) ∙ ap (put _ 0) (bytesIn-listed _)
+returns c =
+    let loop = c .before .loop in
+    filling-end (loop .inv) (omega arith) ∙ ap (put _ 0) (bytesIn-listed _)
 
 pub decode-spec : {M : Type 1} → statement M
 decode-spec =

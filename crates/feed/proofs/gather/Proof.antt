@@ -29,7 +29,13 @@ same-length : tie.Need-same-length
 same-length c = search needs
 
 returns : tie.Need-returns
-returns c = gather-fits (c .before .before .before .before .before .before .before .args .part .now) (c .before .before .before .before .before .before .before .args .line .now) (c .before .before .before .before .before .before .before .args .gathered) (c .before .before .before .before .before .before .before .pre .0) (c .before .before .before .before .if1 .taken) (c .before .before .before .before .before .before .before .pre .1) (c .before .before .copy .ensures)
+returns c =
+    let copy = c .before .before .copy in
+    let back = c .before .before .before .before in
+    let if1 = back .if1 in
+    let args = back .before .before .before .args in
+    let pre = back .before .before .before .pre in
+    gather-fits (args .part .now) (args .line .now) (args .gathered) (pre .0) (if1 .taken) (pre .1) (copy .ensures)
 
 slice-aggregate-copy : tie.Need-slice-aggregate-copy
 slice-aggregate-copy c = sym (length-take-le _ _ (omega arith))
@@ -44,13 +50,23 @@ part-copy-end-2 : tie.Need-part-copy-end-2
 part-copy-end-2 c = search needs
 
 copy-requires-2 : tie.Need-copy-requires-2
-copy-requires-2 c κs = gather-room (c .before .before .before .before .before .args .part .now) (c .before .before .before .before .before .args .line .now) (c .before .before .before .before .before .args .gathered) (c .before .before .before .before .before .pre .0) (c .before .before .if1 .left) (c .before .before .before .before .before .pre .1)
+copy-requires-2 c κs =
+    let if1 = c .before .before .if1 in
+    let args = c .before .before .before .before .before .args in
+    let pre = c .before .before .before .before .before .pre in
+    gather-room (args .part .now) (args .line .now) (args .gathered) (pre .0) (if1 .left) (pre .1)
 
 same-length-2 : tie.Need-same-length-2
 same-length-2 c = search needs
 
 returns-2 : tie.Need-returns-2
-returns-2 c = gather-over (c .before .before .before .before .before .before .before .before .args .part .now) (c .before .before .before .before .before .before .before .before .args .line .now) (c .before .before .before .before .before .before .before .before .args .gathered) (c .before .before .before .before .before .before .before .before .pre .0) (c .before .before .before .before .before .if1 .left) (c .before .before .before .before .before .before .before .before .pre .1) (c .before .before .copy2 .ensures)
+returns-2 c =
+    let copy2 = c .before .before .copy2 in
+    let back = c .before .before .before .before .before in
+    let if1 = back .if1 in
+    let args = back .before .before .before .args in
+    let pre = back .before .before .before .pre in
+    gather-over (args .part .now) (args .line .now) (args .gathered) (pre .0) (if1 .left) (pre .1) (copy2 .ensures)
 
 pub gather-spec : {M : Type 1} → statement M
 gather-spec =

@@ -20,7 +20,9 @@ shared-slice-read-if1 : tie.Need-shared-slice-read-if1 Inv-loop μ-loop
 shared-slice-read-if1 c = search needs
 
 returns : tie.Need-returns Inv-loop μ-loop
-returns c = seeking-found (c .before .before .before .loop .inv) (c .if1 .taken)
+returns c =
+    let loop = c .before .before .before .loop in
+    seeking-found (loop .inv) (c .if1 .taken)
 
 add-i : tie.Need-add-i Inv-loop μ-loop
 add-i c = omega arith
@@ -29,10 +31,14 @@ loop-less : tie.Need-loop-less Inv-loop μ-loop
 loop-less c = omega arith
 
 loop-again : tie.Need-loop-again Inv-loop μ-loop
-loop-again c = seeking-more (c .before .before .before .loop .inv) (omega arith) (c .if1 .left)
+loop-again c =
+    let loop = c .before .before .before .loop in
+    seeking-more (loop .inv) (omega arith) (c .if1 .left)
 
 returns-2 : tie.Need-returns-2 Inv-loop μ-loop
-returns-2 c = seeking-end (c .before .loop .inv) (omega arith)
+returns-2 c =
+    let loop = c .before .loop in
+    seeking-end (loop .inv) (omega arith)
 
 pub line-end-spec : {M : Type 1} → statement M
 line-end-spec =

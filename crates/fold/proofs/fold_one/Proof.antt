@@ -15,10 +15,28 @@ same-length : tie.Need-same-length
 same-length c = search needs
 
 returns : tie.Need-returns
-returns c = let one = one-run (c .before .before .before .before .before .before .before .pre .0) (bytes-known (c .before .before .before .before .before .before .before .args .t .now) (c .before .before .before .before .before .before .shared-slice-known .given)) (c .before .before .before .before .before .before .before .pre .1) in (answer-fits (c .before .before .before .before .before .before .before .args .a .0) (c .before .before .before .before .before .before .before .args .b .0) (runsOf (c .before .before .before .before .before .before .before .args .t .now)) _ refl (one .short) (one .size) (c .before .before .before .before .if1 .taken), leaves-tray (c .before .before .before .before .before .before .before .args .t .now) (c .before .before .before .before .before .before .before .args .out .now) (c .before .before .before .before .before .before .before .args .a .0) (c .before .before .before .before .before .before .before .args .b .0) _ (c .before .before .copy .ensures ∙ ap (put (c .before .before .before .before .before .before .before .args .out .now) 0) (one .copy)))
+returns c =
+    let back = c .before .before in
+    let copy = back .copy in
+    let if1 = back .before .before .if1 in
+    let back = back .before .before .before .before in
+    let shared-slice-known = back .shared-slice-known in
+    let args = back .before .args in
+    let pre = back .before .pre in
+    let one = one-run (pre .0) (bytes-known (args .t .now) (shared-slice-known .given)) (pre .1) in (
+      answer-fits (args .a .0) (args .b .0) (runsOf (args .t .now)) _ refl (one .short) (one .size) (if1 .taken),
+      leaves-tray (args .t .now) (args .out .now) (args .a .0) (args .b .0) _ (copy .ensures ∙ ap (put (args .out .now) 0) (one .copy)),
+    )
 
 returns-2 : tie.Need-returns-2
-returns-2 c = let one = one-run (c .before .before .before .pre .0) (bytes-known (c .before .before .before .args .t .now) (c .before .before .shared-slice-known .given)) (c .before .before .before .pre .1) in (answer-short (c .before .before .before .args .a .0) (c .before .before .before .args .b .0) (runsOf (c .before .before .before .args .t .now)) _ refl (one .short) (one .size) (c .if1 .left), leaves-same (c .before .before .before .args .t .now) (c .before .before .before .args .out .now) (c .before .before .before .args .a .0) (c .before .before .before .args .b .0) _)
+returns-2 c =
+    let shared-slice-known = c .before .before .shared-slice-known in
+    let args = c .before .before .before .args in
+    let pre = c .before .before .before .pre in
+    let one = one-run (pre .0) (bytes-known (args .t .now) (shared-slice-known .given)) (pre .1) in (
+      answer-short (args .a .0) (args .b .0) (runsOf (args .t .now)) _ refl (one .short) (one .size) (c .if1 .left),
+      leaves-same (args .t .now) (args .out .now) (args .a .0) (args .b .0) _,
+    )
 
 pub fold-one-spec : {M : Type 1} → statement M
 fold-one-spec = tie.close (tie.spec copy-requires same-length returns returns-2)

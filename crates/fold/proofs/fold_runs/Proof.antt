@@ -13,25 +13,82 @@ merge-runs-requires : tie.Need-merge-runs-requires
 merge-runs-requires c κs = search needs
 
 returns : tie.Need-returns
-returns c = (answer-long (c .before .before .before .before .before .before .args .a .0) (c .before .before .before .before .before .before .args .b .0) (runsOf (c .before .before .before .before .before .before .args .t .now)) _ (noted-folded (c .before .before .before .before .before .before .args .a .0) (c .before .before .before .before .before .before .args .b .0) (runsOf (c .before .before .before .before .before .before .args .t .now)) (c .before .before .merge-runs .ensures) .number) (c .if1 .taken), leaves-same (c .before .before .before .before .before .before .args .t .now) (c .before .before .before .before .before .before .args .out .now) (c .before .before .before .before .before .before .args .a .0) (c .before .before .before .before .before .before .args .b .0) _)
+returns c =
+    let merge-runs = c .before .before .merge-runs in
+    let args = c .before .before .before .before .before .before .args in (
+      answer-long
+          (args .a .0)
+          (args .b .0)
+          (runsOf (args .t .now))
+          _
+          (noted-folded (args .a .0) (args .b .0) (runsOf (args .t .now)) (merge-runs .ensures) .number)
+          (c .if1 .taken),
+      leaves-same (args .t .now) (args .out .now) (args .a .0) (args .b .0) _,
+    )
 
 folded-size-requires : tie.Need-folded-size-requires
-folded-size-requires c κs = (c .before .before .before .before .before .before .pre, omega arith, noted-folded (c .before .before .before .before .before .before .args .a .0) (c .before .before .before .before .before .before .args .b .0) (runsOf (c .before .before .before .before .before .before .args .t .now)) (c .before .before .merge-runs .ensures) .number)
+folded-size-requires c κs =
+    let merge-runs = c .before .before .merge-runs in
+    let args = c .before .before .before .before .before .before .args in
+    let folding = c .before .before .before .before .before .before .pre in
+    (folding, omega arith, noted-folded (args .a .0) (args .b .0) (runsOf (args .t .now)) (merge-runs .ensures) .number)
 
 slice-aggregate-write-tray : tie.Need-slice-aggregate-write-tray
 slice-aggregate-write-tray c = search needs
 
 write-tray-requires : tie.Need-write-tray-requires
-write-tray-requires c κs = ((c .before .before .before .before .before .before .before .before .before .before .pre, omega arith), (noted-folded (c .before .before .before .before .before .before .before .before .before .before .args .a .0) (c .before .before .before .before .before .before .before .before .before .before .args .b .0) (runsOf (c .before .before .before .before .before .before .before .before .before .before .args .t .now)) (c .before .before .before .before .before .before .merge-runs .ensures), omega (arith, c .before .before .before .folded-size .ensures, c .before .before .if2 .taken)))
+write-tray-requires c κs =
+    let back = c .before .before in
+    let if2 = back .if2 in
+    let folded-size = back .before .folded-size in
+    let back = back .before .before .before .before in
+    let merge-runs = back .merge-runs in
+    let args = back .before .before .before .before .args in
+    let folding = back .before .before .before .before .pre in (
+      (folding, omega arith),
+      (noted-folded (args .a .0) (args .b .0) (runsOf (args .t .now)) (merge-runs .ensures), omega (arith, folded-size .ensures, if2 .taken)),
+    )
 
 same-length : tie.Need-same-length
 same-length c = search needs
 
 returns-2 : tie.Need-returns-2
-returns-2 c = (answer-fits (c .before .before .before .before .before .before .before .before .before .before .before .before .before .args .a .0) (c .before .before .before .before .before .before .before .before .before .before .before .before .before .args .b .0) (runsOf (c .before .before .before .before .before .before .before .before .before .before .before .before .before .args .t .now)) _ (noted-folded (c .before .before .before .before .before .before .before .before .before .before .before .before .before .args .a .0) (c .before .before .before .before .before .before .before .before .before .before .before .before .before .args .b .0) (runsOf (c .before .before .before .before .before .before .before .before .before .before .before .before .before .args .t .now)) (c .before .before .before .before .before .before .before .before .before .merge-runs .ensures) .number) (omega arith) (c .before .before .before .before .before .before .folded-size .ensures) (c .before .before .before .before .before .if2 .taken), leaves-tray (c .before .before .before .before .before .before .before .before .before .before .before .before .before .args .t .now) (c .before .before .before .before .before .before .before .before .before .before .before .before .before .args .out .now) (c .before .before .before .before .before .before .before .before .before .before .before .before .before .args .a .0) (c .before .before .before .before .before .before .before .before .before .before .before .before .before .args .b .0) _ (c .before .before .write-tray .ensures))
+returns-2 c =
+    let back = c .before .before in
+    let write-tray = back .write-tray in
+    let back = back .before .before .before in
+    let if2 = back .if2 in
+    let folded-size = back .before .folded-size in
+    let merge-runs = back .before .before .before .before .merge-runs in
+    let args = back .before .before .before .before .before .before .before .before .args in (
+      answer-fits
+          (args .a .0)
+          (args .b .0)
+          (runsOf (args .t .now))
+          _
+          (noted-folded (args .a .0) (args .b .0) (runsOf (args .t .now)) (merge-runs .ensures) .number)
+          (omega arith)
+          (folded-size .ensures)
+          (if2 .taken),
+      leaves-tray (args .t .now) (args .out .now) (args .a .0) (args .b .0) _ (write-tray .ensures),
+    )
 
 returns-3 : tie.Need-returns-3
-returns-3 c = (answer-short (c .before .before .before .before .before .before .before .before .args .a .0) (c .before .before .before .before .before .before .before .before .args .b .0) (runsOf (c .before .before .before .before .before .before .before .before .args .t .now)) _ (noted-folded (c .before .before .before .before .before .before .before .before .args .a .0) (c .before .before .before .before .before .before .before .before .args .b .0) (runsOf (c .before .before .before .before .before .before .before .before .args .t .now)) (c .before .before .before .before .merge-runs .ensures) .number) (omega arith) (c .before .folded-size .ensures) (c .if2 .left), leaves-same (c .before .before .before .before .before .before .before .before .args .t .now) (c .before .before .before .before .before .before .before .before .args .out .now) (c .before .before .before .before .before .before .before .before .args .a .0) (c .before .before .before .before .before .before .before .before .args .b .0) _)
+returns-3 c =
+    let folded-size = c .before .folded-size in
+    let merge-runs = c .before .before .before .before .merge-runs in
+    let args = c .before .before .before .before .before .before .before .before .args in (
+      answer-short
+          (args .a .0)
+          (args .b .0)
+          (runsOf (args .t .now))
+          _
+          (noted-folded (args .a .0) (args .b .0) (runsOf (args .t .now)) (merge-runs .ensures) .number)
+          (omega arith)
+          (folded-size .ensures)
+          (c .if2 .left),
+      leaves-same (args .t .now) (args .out .now) (args .a .0) (args .b .0) _,
+    )
 
 pub fold-runs-spec : {M : Type 1} → statement M
 fold-runs-spec =

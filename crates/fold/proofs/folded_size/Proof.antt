@@ -46,25 +46,73 @@ add-result : tie.Need-add-result
 add-result c = search needs
 
 sub-result : tie.Need-sub-result
-sub-result c = let laid = laid-parts (c .before .before .before .before .before .pre .0) (bytes-known (c .before .before .before .before .before .args .t .now) (c .before .before .before .before .shared-slice-known .given)) (c .before .before .before .before .before .pre .2) (c .before .before .wide-size .ensures) (c .before .wide-size2 .ensures) in laid .up
+sub-result c =
+    let wide-size2 = c .before .wide-size2 in
+    let wide-size = c .before .before .wide-size in
+    let back = c .before .before .before .before in
+    let shared-slice-known = back .shared-slice-known in
+    let args = back .before .args in
+    let pre = back .before .pre in
+    let laid = laid-parts (pre .0) (bytes-known (args .t .now) (shared-slice-known .given)) (pre .2) (wide-size .ensures) (wide-size2 .ensures) in
+    laid .up
 
 mul-result-2 : tie.Need-mul-result-2
 mul-result-2 c = search needs
 
 add-result-2 : tie.Need-add-result-2
-add-result-2 c = let laid = laid-parts (c .before .before .before .before .before .pre .0) (bytes-known (c .before .before .before .before .before .args .t .now) (c .before .before .before .before .shared-slice-known .given)) (c .before .before .before .before .before .pre .2) (c .before .before .wide-size .ensures) (c .before .wide-size2 .ensures) in omega (arith, laid .size, laid .low, c .before .before .before .before .before .pre .1, c .wide-size3 .ensures)
+add-result-2 c =
+    let wide-size2 = c .before .wide-size2 in
+    let wide-size = c .before .before .wide-size in
+    let back = c .before .before .before .before in
+    let shared-slice-known = back .shared-slice-known in
+    let args = back .before .args in
+    let pre = back .before .pre in
+    let laid = laid-parts (pre .0) (bytes-known (args .t .now) (shared-slice-known .given)) (pre .2) (wide-size .ensures) (wide-size2 .ensures) in
+    omega (arith, laid .size, laid .low, pre .1, c .wide-size3 .ensures)
 
 sub-result-2 : tie.Need-sub-result-2
-sub-result-2 c = let laid = laid-parts (c .before .before .before .before .before .pre .0) (bytes-known (c .before .before .before .before .before .args .t .now) (c .before .before .before .before .shared-slice-known .given)) (c .before .before .before .before .before .pre .2) (c .before .before .wide-size .ensures) (c .before .wide-size2 .ensures) in laid .in-tray-2
+sub-result-2 c =
+    let wide-size2 = c .before .wide-size2 in
+    let wide-size = c .before .before .wide-size in
+    let back = c .before .before .before .before in
+    let shared-slice-known = back .shared-slice-known in
+    let args = back .before .args in
+    let pre = back .before .pre in
+    let laid = laid-parts (pre .0) (bytes-known (args .t .now) (shared-slice-known .given)) (pre .2) (wide-size .ensures) (wide-size2 .ensures) in
+    laid .in-tray-2
 
 add-result-3 : tie.Need-add-result-3
-add-result-3 c = let laid = laid-parts (c .before .before .before .before .before .pre .0) (bytes-known (c .before .before .before .before .before .args .t .now) (c .before .before .before .before .shared-slice-known .given)) (c .before .before .before .before .before .pre .2) (c .before .before .wide-size .ensures) (c .before .wide-size2 .ensures) in omega (arith, laid .size, laid .low, c .before .before .before .before .before .pre .1, c .wide-size3 .ensures)
+add-result-3 c =
+    let wide-size2 = c .before .wide-size2 in
+    let wide-size = c .before .before .wide-size in
+    let back = c .before .before .before .before in
+    let shared-slice-known = back .shared-slice-known in
+    let args = back .before .args in
+    let pre = back .before .pre in
+    let laid = laid-parts (pre .0) (bytes-known (args .t .now) (shared-slice-known .given)) (pre .2) (wide-size .ensures) (wide-size2 .ensures) in
+    omega (arith, laid .size, laid .low, pre .1, c .wide-size3 .ensures)
 
 add-result-4 : tie.Need-add-result-4
-add-result-4 c = let laid = laid-parts (c .before .before .before .before .before .pre .0) (bytes-known (c .before .before .before .before .before .args .t .now) (c .before .before .before .before .shared-slice-known .given)) (c .before .before .before .before .before .pre .2) (c .before .before .wide-size .ensures) (c .before .wide-size2 .ensures) in omega (arith, laid .size, laid .low, c .before .before .before .before .before .pre .1, c .wide-size3 .ensures)
+add-result-4 c =
+    let wide-size2 = c .before .wide-size2 in
+    let wide-size = c .before .before .wide-size in
+    let back = c .before .before .before .before in
+    let shared-slice-known = back .shared-slice-known in
+    let args = back .before .args in
+    let pre = back .before .pre in
+    let laid = laid-parts (pre .0) (bytes-known (args .t .now) (shared-slice-known .given)) (pre .2) (wide-size .ensures) (wide-size2 .ensures) in
+    omega (arith, laid .size, laid .low, pre .1, c .wide-size3 .ensures)
 
 returns : tie.Need-returns
-returns c = let laid = laid-parts (c .before .before .before .before .before .pre .0) (bytes-known (c .before .before .before .before .before .args .t .now) (c .before .before .before .before .shared-slice-known .given)) (c .before .before .before .before .before .pre .2) (c .before .before .wide-size .ensures) (c .before .wide-size2 .ensures) in omega (arith, laid .size, c .wide-size3 .ensures)
+returns c =
+    let wide-size2 = c .before .wide-size2 in
+    let wide-size = c .before .before .wide-size in
+    let back = c .before .before .before .before in
+    let shared-slice-known = back .shared-slice-known in
+    let args = back .before .args in
+    let pre = back .before .pre in
+    let laid = laid-parts (pre .0) (bytes-known (args .t .now) (shared-slice-known .given)) (pre .2) (wide-size .ensures) (wide-size2 .ensures) in
+    omega (arith, laid .size, c .wide-size3 .ensures)
 
 pub folded-size-spec : {M : Type 1} → statement M
 folded-size-spec =

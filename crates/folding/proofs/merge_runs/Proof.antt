@@ -60,10 +60,18 @@ slice-aggregate-fill-heads-7 : tie.Need-slice-aggregate-fill-heads-7
 slice-aggregate-fill-heads-7 c = search needs
 
 fill-heads-requires : tie.Need-fill-heads-requires
-fill-heads-requires c κs = (folding-reading (c .before .before .before .before .before .before .before .before .before .before .before .before .before .before .before .before .before .before .before .before .before .before .pre .0) (c .before .before .before .before .before .before .before .before .skip-runs2 .ensures .room), (c .before .before .before .before .before .before .before .before .before .before .before .before .before .before .before .before .before .before .before .before .before .before .pre .0 .opened .runs, padded-none, refl, refl, refl))
+fill-heads-requires c κs =
+    let back = c .before .before .before .before .before .before .before .before in
+    let skip-runs2 = back .skip-runs2 in
+    let pre = back .before .before .before .before .before .before .before .before .before .before .before .before .before .before .pre in
+    (folding-reading (pre .0) (skip-runs2 .ensures .room), (pre .0 .opened .runs, padded-none, refl, refl, refl))
 
 add-keep-all : tie.Need-add-keep-all
-add-keep-all c = omega (arith, c .before .before .before .before .before .before .before .before .before .before .before .before .before .before .before .before .before .before .before .before .before .before .before .before .before .before .before .pre .0 .within, c .before .before .before .before .before .before .before .before .before .before .before .before .before .before .before .before .before .before .before .before .before .before .before .before .before .before .before .pre .0 .opened .runs, c .before .before .before .before .before .before .before .before .before .before .before .before .before .before .before .before .before .before .before .before .before .before .before .before .before .before .before .pre .0 .opened .few)
+add-keep-all c =
+    let pre =
+    c .before .before .before .before .before .before .before .before .before .before .before .before .before .before .before .before .before .before
+    .before .before .before .before .before .before .before .before .before .pre in
+    omega (arith, pre .0 .within, pre .0 .opened .runs, pre .0 .opened .few)
 
 slice-aggregate-keep-all : tie.Need-slice-aggregate-keep-all
 slice-aggregate-keep-all c = search needs
@@ -87,13 +95,38 @@ slice-aggregate-keep-all-7 : tie.Need-slice-aggregate-keep-all-7
 slice-aggregate-keep-all-7 c = search needs
 
 keep-all-requires : tie.Need-keep-all-requires
-keep-all-requires c κs = ((c .before .before .before .before .before .before .before .before .before .before .before .before .before .before .before .before .before .before .before .before .before .before .before .before .before .before .before .before .before .before .before .before .before .before .before .pre .0 .sound, folding-ended (c .before .before .before .before .before .before .before .before .before .before .before .before .before .before .before .before .before .before .before .before .before .before .before .before .before .before .before .before .before .before .before .before .before .before .before .pre .0) (c .before .before .before .before .before .before .before .before .before .before .before .before .before .before .before .before .before .before .before .before .before .before .before .before .wide-size2 .ensures) (c .before .before .before .before .before .before .before .before .before .before .before .before .before .before .before .before .before .before .before .before .before .before .before .wide-size3 .ensures) (c .before .before .before .before .before .before .before .before .before .before .before .before .before .before .before .before .before .before .before .before .before .skip-runs2 .ensures), c .before .before .before .before .before .before .before .before .before .before .before .before .before .before .before .before .before .before .before .before .before .before .before .before .before .before .before .before .before .before .before .before .before .before .before .pre .1), c .before .before .before .before .before .before .before .before .before .before .before .before .fill-heads .ensures)
+keep-all-requires c κs =
+    let back = c .before .before .before .before .before .before .before .before .before .before .before .before in
+    let fill-heads = back .fill-heads in
+    let back = back .before .before .before .before .before .before .before .before .before in
+    let skip-runs2 = back .skip-runs2 in
+    let wide-size3 = back .before .before .wide-size3 in
+    let wide-size2 = back .before .before .before .wide-size2 in
+    let pre = back .before .before .before .before .before .before .before .before .before .before .before .before .before .before .pre in
+    ((pre .0 .sound, folding-ended (pre .0) (wide-size2 .ensures) (wide-size3 .ensures) (skip-runs2 .ensures), pre .1), fill-heads .ensures)
 
 same-length : tie.Need-same-length
 same-length c = search needs
 
 returns : tie.Need-returns
-returns c = folding-noted (c .before .before .before .before .before .before .before .before .before .before .before .before .before .before .before .before .before .before .before .before .before .before .before .before .before .before .before .before .before .before .before .before .before .before .before .before .before .before .before .before .before .before .before .pre .0) (folding-merge (c .before .before .before .before .before .before .before .before .before .before .before .before .before .before .before .before .before .before .before .before .before .before .before .before .before .before .before .before .before .before .before .before .before .before .before .before .before .before .before .before .before .before .before .pre .0) (c .before .before .before .before .before .before .before .before .before .before .before .before .before .before .before .before .before .before .before .before .before .before .before .before .before .before .before .before .before .before .before .before .before .before .before .before .before .wide-size .ensures) (c .before .before .before .before .before .before .before .before .before .before .before .before .before .before .before .before .before .before .before .before .before .before .before .before .before .before .before .before .before .before .before .before .wide-size2 .ensures) (c .before .before .before .before .before .before .before .before .before .before .before .before .before .before .before .before .before .before .before .before .before .before .before .before .before .before .before .before .before .before .before .wide-size3 .ensures) (c .before .before .before .before .before .before .before .before .before .before .before .before .before .before .before .before .before .before .before .before .before .before .before .before .before .before .before .before .before .before .before .before .before .before .before .skip-runs .ensures) (c .before .before .before .before .before .before .before .before .before .before .before .before .before .before .before .before .before .before .before .before .before .before .before .before .before .before .before .before .before .skip-runs2 .ensures)) (c .before .before .before .before .before .before .before .keep-all .ensures)
+returns c =
+    let back = c .before .before .before .before .before .before .before in
+    let keep-all = back .keep-all in
+    let back =
+    back .before .before .before .before .before .before .before .before .before .before .before .before .before .before .before .before .before
+    .before .before .before .before .before in
+    let skip-runs2 = back .skip-runs2 in
+    let back = back .before .before in
+    let wide-size3 = back .wide-size3 in
+    let wide-size2 = back .before .wide-size2 in
+    let back = back .before .before .before .before in
+    let skip-runs = back .skip-runs in
+    let wide-size = back .before .before .wide-size in
+    let pre = back .before .before .before .before .before .before .before .before .pre in
+    folding-noted
+    (pre .0)
+    (folding-merge (pre .0) (wide-size .ensures) (wide-size2 .ensures) (wide-size3 .ensures) (skip-runs .ensures) (skip-runs2 .ensures))
+    (keep-all .ensures)
 
 pub merge-runs-spec : {M : Type 1} → statement M
 merge-runs-spec =

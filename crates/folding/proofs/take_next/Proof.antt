@@ -24,10 +24,22 @@ size16-requires : tie.Need-size16-requires
 size16-requires c κs = search needs
 
 mul-note-2 : tie.Need-mul-note-2
-mul-note-2 c = let at = stands-at (c .before .before .before .before .before .before .before .before .before .before .before .before .before .before .pre .0 .caching .reading) (c .before .before .before .before .before .before .before .before .before .before .before .before .before .before .pre .1 .0) (c .before .before .before .before .wide-size .ensures) (c .before .before .before .before .before .before .before .before .before .before .before .before .before .before .pre .1 .1) in omega (arith, at .low, c .size16 .ensures)
+mul-note-2 c =
+    let back = c .before .before .before .before in
+    let wide-size = back .wide-size in
+    let back = back .before .before .before .before .before .before .before .before .before .before in
+    let pre = back .pre in
+    let heading = back .pre .0 in
+    let at = stands-at (heading .caching .reading) (pre .1 .0) (wide-size .ensures) (pre .1 .1) in omega (arith, at .low, c .size16 .ensures)
 
 add-note : tie.Need-add-note
-add-note c = let at = stands-at (c .before .before .before .before .before .before .before .before .before .before .before .before .before .before .pre .0 .caching .reading) (c .before .before .before .before .before .before .before .before .before .before .before .before .before .before .pre .1 .0) (c .before .before .before .before .wide-size .ensures) (c .before .before .before .before .before .before .before .before .before .before .before .before .before .before .pre .1 .1) in omega (arith, at .low, c .size16 .ensures)
+add-note c =
+    let back = c .before .before .before .before in
+    let wide-size = back .wide-size in
+    let back = back .before .before .before .before .before .before .before .before .before .before in
+    let pre = back .pre in
+    let heading = back .pre .0 in
+    let at = stands-at (heading .caching .reading) (pre .1 .0) (wide-size .ensures) (pre .1 .1) in omega (arith, at .low, c .size16 .ensures)
 
 note-requires : tie.Need-note-requires
 note-requires c κs = search needs
@@ -54,7 +66,19 @@ same-length-6 : tie.Need-same-length-6
 same-length-6 c = search needs
 
 returns : tie.Need-returns
-returns c = let at = stands-at (c .before .before .before .before .before .before .before .before .before .before .before .before .before .before .before .before .before .before .before .before .before .before .before .before .before .before .before .before .before .before .before .before .before .pre .0 .caching .reading) (c .before .before .before .before .before .before .before .before .before .before .before .before .before .before .before .before .before .before .before .before .before .before .before .before .before .before .before .before .before .before .before .before .before .pre .1 .0) (c .before .before .before .before .before .before .before .before .before .before .before .before .before .before .before .before .before .before .before .before .before .before .before .wide-size .ensures) (c .before .before .before .before .before .before .before .before .before .before .before .before .before .before .before .before .before .before .before .before .before .before .before .before .before .before .before .before .before .before .before .before .before .pre .1 .1) in (noted-at _ _ (omega (arith, at .is, c .before .before .before .before .before .before .before .before .before .before .before .before .before .before .before .before .before .before .before .size16 .ensures)) (c .before .before .before .before .before .before .before .before .before .before .before .before .before .before .before .before .before .before .note .ensures), (c .before .before .before .before .before .before .before .before .before .before .advance .ensures .0, c .before .before .before .before .before .before .before .before .before .before .advance .ensures .1))
+returns c =
+    let back = c .before .before .before .before .before .before .before .before .before .before in
+    let advance = back .advance in
+    let back = back .before .before .before .before .before .before .before .before in
+    let note = back .note in
+    let size16 = back .before .size16 in
+    let back = back .before .before .before .before .before in
+    let wide-size = back .wide-size in
+    let back = back .before .before .before .before .before .before .before .before .before .before in
+    let pre = back .pre in
+    let heading = back .pre .0 in
+    let at = stands-at (heading .caching .reading) (pre .1 .0) (wide-size .ensures) (pre .1 .1) in
+    (noted-at _ _ (omega (arith, at .is, size16 .ensures)) (note .ensures), (advance .ensures .0, advance .ensures .1))
 
 pub take-next-spec : {M : Type 1} → statement M
 take-next-spec =

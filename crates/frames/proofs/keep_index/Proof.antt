@@ -12,13 +12,42 @@ enum-known-a : tie.Need-enum-known-a
 enum-known-a c = search needs
 
 slice-reshare-prefix-put-long : tie.Need-slice-reshare-prefix-put-long
-slice-reshare-prefix-put-long c = omega (arith, (index-front (c .before .before .before .before .before .before .before .before .before .before .args .t .now) (c .before .before .before .before .before .before .before .before .before .before .args .d) (c .before .before .before .before .before .before .before .before .before .before .args .index .now) (c .before .before .before .before .before .before .before .before .before .before .pre .0) (c .before .before .before .before .before .build .ensures .0) (c .before .before .before .before .before .build .ensures .1) (c .before .a .given .1)) .fits, (index-front (c .before .before .before .before .before .before .before .before .before .before .args .t .now) (c .before .before .before .before .before .before .before .before .before .before .args .d) (c .before .before .before .before .before .before .before .before .before .before .args .index .now) (c .before .before .before .before .before .before .before .before .before .before .pre .0) (c .before .before .before .before .before .build .ensures .0) (c .before .before .before .before .before .build .ensures .1) (c .before .a .given .1)) .room-is)
+slice-reshare-prefix-put-long c =
+    let a = c .before .a in
+    let back = c .before .before .before .before .before in
+    let build = back .build in
+    let args = back .before .before .before .before .before .args in
+    let pre = back .before .before .before .before .before .pre in
+    omega (
+      arith,
+      (index-front (args .t .now) (args .d) (args .index .now) (pre .0) (build .ensures .0) (build .ensures .1) (a .given .1)) .fits,
+      (index-front (args .t .now) (args .d) (args .index .now) (pre .0) (build .ensures .0) (build .ensures .1) (a .given .1)) .room-is,
+    )
 
 slice-aggregate-put-long : tie.Need-slice-aggregate-put-long
-slice-aggregate-put-long c = front-length (index-front (c .before .before .before .before .before .before .before .before .before .before .before .args .t .now) (c .before .before .before .before .before .before .before .before .before .before .before .args .d) (c .before .before .before .before .before .before .before .before .before .before .before .args .index .now) (c .before .before .before .before .before .before .before .before .before .before .before .pre .0) (c .before .before .before .before .before .before .build .ensures .0) (c .before .before .before .before .before .before .build .ensures .1) (c .before .before .a .given .1))
+slice-aggregate-put-long c =
+    let a = c .before .before .a in
+    let back = c .before .before .before .before .before .before in
+    let build = back .build in
+    let args = back .before .before .before .before .before .args in
+    let pre = back .before .before .before .before .before .pre in
+    front-length (index-front (args .t .now) (args .d) (args .index .now) (pre .0) (build .ensures .0) (build .ensures .1) (a .given .1))
 
 put-long-requires : tie.Need-put-long-requires
-put-long-requires c κs = (c .before .before .before .before .before .before .before .before .before .before .before .before .pre .1, omega (arith, front-length (index-front (c .before .before .before .before .before .before .before .before .before .before .before .before .args .t .now) (c .before .before .before .before .before .before .before .before .before .before .before .before .args .d) (c .before .before .before .before .before .before .before .before .before .before .before .before .args .index .now) (c .before .before .before .before .before .before .before .before .before .before .before .before .pre .0) (c .before .before .before .before .before .before .before .build .ensures .0) (c .before .before .before .before .before .before .before .build .ensures .1) (c .before .before .before .a .given .1)), (index-front (c .before .before .before .before .before .before .before .before .before .before .before .before .args .t .now) (c .before .before .before .before .before .before .before .before .before .before .before .before .args .d) (c .before .before .before .before .before .before .before .before .before .before .before .before .args .index .now) (c .before .before .before .before .before .before .before .before .before .before .before .before .pre .0) (c .before .before .before .before .before .before .before .build .ensures .0) (c .before .before .before .before .before .before .before .build .ensures .1) (c .before .before .before .a .given .1)) .fits))
+put-long-requires c κs =
+    let back = c .before .before .before in
+    let a = back .a in
+    let back = back .before .before .before .before in
+    let build = back .build in
+    let args = back .before .before .before .before .before .args in
+    let pre = back .before .before .before .before .before .pre in (
+      pre .1,
+      omega (
+        arith,
+        front-length (index-front (args .t .now) (args .d) (args .index .now) (pre .0) (build .ensures .0) (build .ensures .1) (a .given .1)),
+        (index-front (args .t .now) (args .d) (args .index .now) (pre .0) (build .ensures .0) (build .ensures .1) (a .given .1)) .fits,
+      ),
+    )
 
 enum-known-a-2 : tie.Need-enum-known-a-2
 enum-known-a-2 c = search needs
@@ -33,7 +62,16 @@ same-length-2 : tie.Need-same-length-2
 same-length-2 c = search needs
 
 returns : tie.Need-returns
-returns c = index-kept (c .before .before .before .before .before .before .before .before .before .before .before .before .before .before .before .args .t .now) (c .before .before .before .before .before .before .before .before .before .before .before .before .before .before .before .args .d) (c .before .before .before .before .before .before .before .before .before .before .before .before .before .before .before .args .index .now) (c .before .before .before .before .before .before .before .before .before .before .before .before .before .before .before .pre .0) (c .before .before .before .before .before .before .before .before .before .before .build .ensures .0) (c .before .before .before .before .before .before .before .before .before .before .build .ensures .1) (c .before .before .before .before .before .before .a .given .1) (c .before .before .put-long .ensures)
+returns c =
+    let back = c .before .before in
+    let put-long = back .put-long in
+    let back = back .before .before .before .before in
+    let a = back .a in
+    let back = back .before .before .before .before in
+    let build = back .build in
+    let args = back .before .before .before .before .before .args in
+    let pre = back .before .before .before .before .before .pre in
+    index-kept (args .t .now) (args .d) (args .index .now) (pre .0) (build .ensures .0) (build .ensures .1) (a .given .1) (put-long .ensures)
 
 same-length-3 : tie.Need-same-length-3
 same-length-3 c = search needs
@@ -42,7 +80,16 @@ same-length-4 : tie.Need-same-length-4
 same-length-4 c = search needs
 
 returns-2 : tie.Need-returns-2
-returns-2 c = index-refused (c .before .before .before .before .before .before .before .before .before .before .before .before .before .before .args .t .now) (c .before .before .before .before .before .before .before .before .before .before .before .before .before .before .args .d) (c .before .before .before .before .before .before .before .before .before .before .before .before .before .before .args .index .now) (c .before .before .before .before .before .before .before .before .before .before .before .before .before .before .pre .0) (c .before .before .before .before .before .before .before .before .before .build .ensures .0) (c .before .before .before .before .before .before .before .before .before .build .ensures .1) (c .before .before .before .before .before .a2 .given .1) (c .before .before .put-refusal .ensures)
+returns-2 c =
+    let back = c .before .before in
+    let put-refusal = back .put-refusal in
+    let back = back .before .before .before in
+    let a2 = back .a2 in
+    let back = back .before .before .before .before in
+    let build = back .build in
+    let args = back .before .before .before .before .before .args in
+    let pre = back .before .before .before .before .before .pre in
+    index-refused (args .t .now) (args .d) (args .index .now) (pre .0) (build .ensures .0) (build .ensures .1) (a2 .given .1) (put-refusal .ensures)
 
 pub keep-index-spec : {M : Type 1} → statement M
 keep-index-spec =

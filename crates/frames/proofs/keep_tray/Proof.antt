@@ -29,13 +29,31 @@ same-length-2 : tie.Need-same-length-2
 same-length-2 c = search needs
 
 returns : tie.Need-returns
-returns c = tray-kept (c .before .before .before .before .before .before .before .before .before .before .before .before .before .before .before .args .bytes .now) (c .before .before .before .before .before .before .before .before .before .before .before .before .before .before .before .args .tray .now) (c .before .before .before .before .before .before .before .before .before .before .before .before .before .before .before .pre .1) (c .before .before .before .before .before .before .before .before .before .before .before .check-tray .ensures) (c .before .before .before .before .before .before .before .before .before .before .before .before .before .before .before .pre .0) (c .before .before .before .before .before .before .before .before .before .a .given .1) (c .before .before .before .before .before .before .copy .ensures) (c .before .before .put-short .ensures)
+returns c =
+    let back = c .before .before in
+    let put-short = back .put-short in
+    let back = back .before .before .before .before in
+    let copy = back .copy in
+    let back = back .before .before .before in
+    let a = back .a in
+    let check-tray = back .before .before .check-tray in
+    let args = back .before .before .before .before .before .before .args in
+    let pre = back .before .before .before .before .before .before .pre in
+    tray-kept (args .bytes .now) (args .tray .now) (pre .1) (check-tray .ensures) (pre .0) (a .given .1) (copy .ensures) (put-short .ensures)
 
 same-length-3 : tie.Need-same-length-3
 same-length-3 c = search needs
 
 returns-2 : tie.Need-returns-2
-returns-2 c = tray-refused (c .before .before .before .before .before .before .before .before .before .before .before .args .bytes .now) (c .before .before .before .before .before .before .before .before .before .before .before .args .tray .now) (c .before .before .before .before .before .before .before .before .before .before .before .pre .1) (c .before .before .before .before .before .before .before .check-tray .ensures) (c .before .before .before .before .before .a2 .given .1) (c .before .before .put-refusal .ensures)
+returns-2 c =
+    let back = c .before .before in
+    let put-refusal = back .put-refusal in
+    let back = back .before .before .before in
+    let a2 = back .a2 in
+    let check-tray = back .before .before .check-tray in
+    let args = back .before .before .before .before .before .before .args in
+    let pre = back .before .before .before .before .before .before .pre in
+    tray-refused (args .bytes .now) (args .tray .now) (pre .1) (check-tray .ensures) (a2 .given .1) (put-refusal .ensures)
 
 pub keep-tray-spec : {M : Type 1} → statement M
 keep-tray-spec =

@@ -29,7 +29,11 @@ shared-slice-read-t17 : tie.Need-shared-slice-read-t17
 shared-slice-read-t17 c = search needs
 
 returns : tie.Need-returns
-returns c = key-whole (c .before .before .before .before .before .before .before .before .args .key .now) (c .before .before .before .before .before .before .before .before .pre)
+returns c =
+    let back = c .before .before .before .before .before .before .before .before in
+    let args = back .args in
+    let pre = back .pre in
+    key-whole (args .key .now) pre
 
 pub key-of-spec : {M : Type 1} → statement M
 key-of-spec =

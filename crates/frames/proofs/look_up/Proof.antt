@@ -18,7 +18,13 @@ slice-aggregate-put-long : tie.Need-slice-aggregate-put-long
 slice-aggregate-put-long c = search needs
 
 put-long-requires : tie.Need-put-long-requires
-put-long-requires c κs = (c .before .before .before .before .before .before .before .before .before .before .before .before .pre .1, omega (arith, got-length (c .before .before .before .before .before .before .before .before .before .before .before .before .args .t .now) (c .before .before .before .before .before .before .before .before .before .before .before .before .args .x .now) (c .before .before .before .before .before .before .before .before .before .before .before .before .args .key .now) (c .before .before .before .before .before .before .before .key-of .ensures) (c .before .before .before .before .before .get .ensures)))
+put-long-requires c κs =
+    let back = c .before .before .before .before .before in
+    let get = back .get in
+    let key-of = back .before .before .key-of in
+    let args = back .before .before .before .before .before .before .before .args in
+    let pre = back .before .before .before .before .before .before .before .pre in
+    (pre .1, omega (arith, got-length (args .t .now) (args .x .now) (args .key .now) (key-of .ensures) (get .ensures)))
 
 enum-told-2 : tie.Need-enum-told-2
 enum-told-2 c = search needs
@@ -36,19 +42,43 @@ same-length : tie.Need-same-length
 same-length c = search needs
 
 returns : tie.Need-returns
-returns c = get-found (c .before .before .before .before .before .before .before .before .before .before .before .before .before .before .before .args .t .now) (c .before .before .before .before .before .before .before .before .before .before .before .before .before .before .before .args .x .now) (c .before .before .before .before .before .before .before .before .before .before .before .before .before .before .before .args .key .now) (c .before .before .before .before .before .before .before .before .before .before .key-of .ensures) (c .before .before .before .before .before .before .before .before .get .ensures) (c .before .before .before .before .before .before .enum-told .given .1) (c .before .before .put-long .ensures)
+returns c =
+    let back = c .before .before in
+    let put-long = back .put-long in
+    let back = back .before .before .before .before in
+    let enum-told = back .enum-told in
+    let get = back .before .before .get in
+    let key-of = back .before .before .before .before .key-of in
+    let args = back .before .before .before .before .before .before .before .before .before .args in
+    get-found (args .t .now) (args .x .now) (args .key .now) (key-of .ensures) (get .ensures) (enum-told .given .1) (put-long .ensures)
 
 same-length-2 : tie.Need-same-length-2
 same-length-2 c = search needs
 
 returns-2 : tie.Need-returns-2
-returns-2 c = get-absent (c .before .before .before .before .before .before .before .before .before .before .before .before .before .args .t .now) (c .before .before .before .before .before .before .before .before .before .before .before .before .before .args .x .now) (c .before .before .before .before .before .before .before .before .before .before .before .before .before .args .key .now) (c .before .before .before .before .before .before .before .before .key-of .ensures) (c .before .before .before .before .before .before .get .ensures) (c .before .before .before .before .enum-told2 .given .1) (c .before .before .put-short .ensures)
+returns-2 c =
+    let back = c .before .before in
+    let put-short = back .put-short in
+    let enum-told2 = back .before .before .enum-told2 in
+    let back = back .before .before .before .before in
+    let get = back .get in
+    let key-of = back .before .before .key-of in
+    let args = back .before .before .before .before .before .before .before .args in
+    get-absent (args .t .now) (args .x .now) (args .key .now) (key-of .ensures) (get .ensures) (enum-told2 .given .1) (put-short .ensures)
 
 same-length-3 : tie.Need-same-length-3
 same-length-3 c = search needs
 
 returns-3 : tie.Need-returns-3
-returns-3 c = get-refused (c .before .before .before .before .before .before .before .before .before .before .before .before .before .before .args .t .now) (c .before .before .before .before .before .before .before .before .before .before .before .before .before .before .args .x .now) (c .before .before .before .before .before .before .before .before .before .before .before .before .before .before .args .key .now) (c .before .before .before .before .before .before .before .before .before .key-of .ensures) (c .before .before .before .before .before .before .before .get .ensures) (c .before .before .before .before .before .a .given .1) (c .before .before .put-refusal .ensures)
+returns-3 c =
+    let back = c .before .before in
+    let put-refusal = back .put-refusal in
+    let back = back .before .before .before in
+    let a = back .a in
+    let get = back .before .before .get in
+    let key-of = back .before .before .before .before .key-of in
+    let args = back .before .before .before .before .before .before .before .before .before .args in
+    get-refused (args .t .now) (args .x .now) (args .key .now) (key-of .ensures) (get .ensures) (a .given .1) (put-refusal .ensures)
 
 pub look-up-spec : {M : Type 1} → statement M
 look-up-spec =

@@ -25,15 +25,21 @@ no-value-requires-3 c κs = search needs
 
 returns : tie.Need-returns
 unfolding nothingAt
-returns c = c .no-value .ensures ∙ ap nothingAt (sym (c .before .before .sight .given .1))
+returns c =
+    let sight = c .before .before .sight in
+    c .no-value .ensures ∙ ap nothingAt (sym (sight .given .1))
 
 returns-2 : tie.Need-returns-2
 unfolding nothingAt
-returns-2 c = c .no-value2 .ensures ∙ ap nothingAt (sym (c .before .enum-told .given .1))
+returns-2 c =
+    let enum-told = c .before .enum-told in
+    c .no-value2 .ensures ∙ ap nothingAt (sym (enum-told .given .1))
 
 returns-3 : tie.Need-returns-3
 unfolding nothingAt
-returns-3 c = c .no-value3 .ensures ∙ ap nothingAt (sym (c .before .enum-told2 .given .1))
+returns-3 c =
+    let enum-told2 = c .before .enum-told2 in
+    c .no-value3 .ensures ∙ ap nothingAt (sym (enum-told2 .given .1))
 
 pub found-nothing-spec : {M : Type 1} → statement M
 found-nothing-spec =

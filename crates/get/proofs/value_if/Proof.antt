@@ -30,37 +30,96 @@ shared-slice-read-e : tie.Need-shared-slice-read-e
 shared-slice-read-e c = search needs
 
 sub-key-at : tie.Need-sub-key-at
-sub-key-at c = cut _ (c .before .before .before .before .before .pre .0) (c .before .before .before .before .before .pre .1 .0) (c .before .before .wide-size .ensures) .start
+sub-key-at c =
+    let wide-size = c .before .before .wide-size in
+    let pre = c .before .before .before .before .before .pre in
+    let starts = c .before .before .before .before .before .pre .0 in
+    cut _ starts (pre .1 .0) (wide-size .ensures) .start
 
 part-key-at-start : tie.Need-part-key-at-start
-part-key-at-start c = cut _ (c .before .before .before .before .before .pre .0) (c .before .before .before .before .before .pre .1 .0) (c .before .before .wide-size .ensures) .start
+part-key-at-start c =
+    let wide-size = c .before .before .wide-size in
+    let pre = c .before .before .before .before .before .pre in
+    let starts = c .before .before .before .before .before .pre .0 in
+    cut _ starts (pre .1 .0) (wide-size .ensures) .start
 
 part-key-at-end : tie.Need-part-key-at-end
-part-key-at-end c = cut _ (c .before .before .before .before .before .pre .0) (c .before .before .before .before .before .pre .1 .0) (c .before .before .wide-size .ensures) .end
+part-key-at-end c =
+    let wide-size = c .before .before .wide-size in
+    let pre = c .before .before .before .before .before .pre in
+    let starts = c .before .before .before .before .before .pre .0 in
+    cut _ starts (pre .1 .0) (wide-size .ensures) .end
 
 key-at-requires : tie.Need-key-at-requires
-key-at-requires c κs = let k = cut _ (c .before .before .before .before .before .before .pre .0) (c .before .before .before .before .before .before .pre .1 .0) (c .before .before .before .wide-size .ensures) in omega (arith, k .whole)
+key-at-requires c κs =
+    let wide-size = c .before .before .before .wide-size in
+    let pre = c .before .before .before .before .before .before .pre in
+    let starts = c .before .before .before .before .before .before .pre .0 in
+    let k = cut _ starts (pre .1 .0) (wide-size .ensures) in omega (arith, k .whole)
 
 sub-value-at : tie.Need-sub-value-at
-sub-value-at c = cut _ (c .before .before .before .before .before .before .before .before .pre .0) (c .before .before .before .before .before .before .before .before .pre .1 .0) (c .before .before .before .before .before .wide-size .ensures) .start
+sub-value-at c =
+    let back = c .before .before .before .before .before in
+    let wide-size = back .wide-size in
+    let pre = back .before .before .before .pre in
+    let starts = back .before .before .before .pre .0 in
+    cut _ starts (pre .1 .0) (wide-size .ensures) .start
 
 part-value-at-start : tie.Need-part-value-at-start
-part-value-at-start c = cut _ (c .before .before .before .before .before .before .before .before .pre .0) (c .before .before .before .before .before .before .before .before .pre .1 .0) (c .before .before .before .before .before .wide-size .ensures) .start
+part-value-at-start c =
+    let back = c .before .before .before .before .before in
+    let wide-size = back .wide-size in
+    let pre = back .before .before .before .pre in
+    let starts = back .before .before .before .pre .0 in
+    cut _ starts (pre .1 .0) (wide-size .ensures) .start
 
 part-value-at-end : tie.Need-part-value-at-end
-part-value-at-end c = cut _ (c .before .before .before .before .before .before .before .before .pre .0) (c .before .before .before .before .before .before .before .before .pre .1 .0) (c .before .before .before .before .before .wide-size .ensures) .end
+part-value-at-end c =
+    let back = c .before .before .before .before .before in
+    let wide-size = back .wide-size in
+    let pre = back .before .before .before .pre in
+    let starts = back .before .before .before .pre .0 in
+    cut _ starts (pre .1 .0) (wide-size .ensures) .end
 
 value-at-requires : tie.Need-value-at-requires
-value-at-requires c κs = let k = cut _ (c .before .before .before .before .before .before .before .before .before .pre .0) (c .before .before .before .before .before .before .before .before .before .pre .1 .0) (c .before .before .before .before .before .before .wide-size .ensures) in omega (arith, k .whole)
+value-at-requires c κs =
+    let back = c .before .before .before .before .before .before in
+    let wide-size = back .wide-size in
+    let pre = back .before .before .before .pre in
+    let starts = back .before .before .before .pre .0 in
+    let k = cut _ starts (pre .1 .0) (wide-size .ensures) in omega (arith, k .whole)
 
 returns : tie.Need-returns
-returns c = let k = cut _ (c .before .before .before .before .before .before .before .before .before .before .pre .0) (c .before .before .before .before .before .before .before .before .before .before .pre .1 .0) (c .before .before .before .before .before .before .before .wide-size .ensures) in value-there _ _ _ _ (c .before .before .before .key-at .ensures ∙ ap (λ (s : List ℕ). recordAt s (c .before .before .before .before .before .before .before .before .before .before .args .place .0) .key) (k .bytes)) (c .before .before .if1 .taken) (c .value-at .ensures ∙ ap (λ (s : List ℕ). bytesOf 16 (recordAt s (c .before .before .before .before .before .before .before .before .before .before .args .place .0) .value)) (k .bytes))
+returns c =
+    let back = c .before .before in
+    let if1 = back .if1 in
+    let key-at = back .before .key-at in
+    let back = back .before .before .before .before .before in
+    let wide-size = back .wide-size in
+    let args = back .before .before .before .args in
+    let pre = back .before .before .before .pre in
+    let starts = back .before .before .before .pre .0 in
+    let k = cut _ starts (pre .1 .0) (wide-size .ensures) in
+    value-there _ _ _ _
+    (key-at .ensures ∙ ap (λ (s : List ℕ). recordAt s (args .place .0) .key) (k .bytes))
+    (if1 .taken)
+    (c .value-at .ensures ∙ ap (λ (s : List ℕ). bytesOf 16 (recordAt s (args .place .0) .value)) (k .bytes))
 
 no-value-requires : tie.Need-no-value-requires
 no-value-requires c κs = search needs
 
 returns-2 : tie.Need-returns-2
-returns-2 c = let k = cut _ (c .before .before .before .before .before .before .before .before .before .pre .0) (c .before .before .before .before .before .before .before .before .before .pre .1 .0) (c .before .before .before .before .before .before .wide-size .ensures) in c .no-value .ensures ∙ value-other _ _ _ _ (c .before .before .key-at .ensures ∙ ap (λ (s : List ℕ). recordAt s (c .before .before .before .before .before .before .before .before .before .args .place .0) .key) (k .bytes)) (c .before .if1 .left)
+returns-2 c =
+    let if1 = c .before .if1 in
+    let back = c .before .before in
+    let key-at = back .key-at in
+    let back = back .before .before .before .before in
+    let wide-size = back .wide-size in
+    let args = back .before .before .before .args in
+    let pre = back .before .before .before .pre in
+    let starts = back .before .before .before .pre .0 in
+    let k = cut _ starts (pre .1 .0) (wide-size .ensures) in
+    c .no-value .ensures ∙ value-other _ _ _ _ (key-at .ensures ∙ ap (λ (s : List ℕ). recordAt s (args .place .0) .key) (k .bytes)) (if1 .left)
 
 pub value-if-spec : {M : Type 1} → statement M
 value-if-spec =

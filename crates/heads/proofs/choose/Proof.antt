@@ -14,7 +14,9 @@ first-left-requires : tie.Need-first-left-requires
 first-left-requires c κs = search needs
 
 returns-2 : tie.Need-returns-2
-returns-2 c = left (c .before .if1 .left) (c .first-left .ensures)
+returns-2 c =
+    let if1 = c .before .if1 in
+    left (if1 .left) (c .first-left .ensures)
 
 pub choose-spec : {M : Type 1} → statement M
 choose-spec = tie.close (tie.spec returns first-left-requires returns-2)

@@ -23,7 +23,10 @@ ahead-requires : tie.Need-ahead-requires
 ahead-requires c κs = search needs
 
 returns : tie.Need-returns
-returns c = first-ahead _ (c .ahead .ensures) (c .before .before .four .ensures) (c .before .four2 .ensures) refl (omega arith)
+returns c =
+    let four2 = c .before .four2 in
+    let four = c .before .before .four in
+    first-ahead _ (c .ahead .ensures) (four .ensures) (four2 .ensures) refl (omega arith)
 
 pub eight-spec : {M : Type 1} → statement M
 eight-spec = tie.close (tie.spec four-requires add-four four-requires-2 ahead-requires returns)

@@ -33,7 +33,10 @@ shared-slice-read-if1-2 : tie.Need-shared-slice-read-if1-2 Inv-loop μ-loop
 shared-slice-read-if1-2 c = search needs
 
 returns : tie.Need-returns Inv-loop μ-loop
-returns c = left-here (c .before .before .before .before .before .loop .inv) (c .before .before .before .wide-size .ensures) (c .if1 .taken)
+returns c =
+    let wide-size = c .before .before .before .wide-size in
+    let loop = c .before .before .before .before .before .loop in
+    left-here (loop .inv) (wide-size .ensures) (c .if1 .taken)
 
 add-r : tie.Need-add-r Inv-loop μ-loop
 add-r c = search needs
@@ -42,10 +45,16 @@ loop-less : tie.Need-loop-less Inv-loop μ-loop
 loop-less c = search needs
 
 loop-again : tie.Need-loop-again Inv-loop μ-loop
-loop-again c = ended-more (c .before .before .before .before .before .loop .inv) (c .before .before .before .before .loop-test .taken) (c .before .before .before .wide-size .ensures) (c .if1 .left)
+loop-again c =
+    let wide-size = c .before .before .before .wide-size in
+    let loop-test = c .before .before .before .before .loop-test in
+    let loop = c .before .before .before .before .before .loop in
+    ended-more (loop .inv) (loop-test .taken) (wide-size .ensures) (c .if1 .left)
 
 returns-2 : tie.Need-returns-2 Inv-loop μ-loop
-returns-2 c = left-none (c .before .loop .inv) (c .loop-test .left)
+returns-2 c =
+    let loop = c .before .loop in
+    left-none (loop .inv) (c .loop-test .left)
 
 pub first-left-spec : {M : Type 1} → statement M
 first-left-spec =

@@ -41,7 +41,20 @@ ahead-requires-3 : tie.Need-ahead-requires-3
 ahead-requires-3 c κs = search needs
 
 returns : tie.Need-returns
-returns c = first-ahead _ (c .ahead3 .ensures) (first-ahead _ (c .before .before .before .before .ahead .ensures) (c .before .before .before .before .before .before .lead-at .ensures) (c .before .before .before .before .before .lead-at2 .ensures) refl refl) (first-ahead _ (c .before .ahead2 .ensures) (c .before .before .before .lead-at3 .ensures) (c .before .before .lead-at4 .ensures) (omega arith) refl) (omega arith) (omega arith)
+returns c =
+    let ahead2 = c .before .ahead2 in
+    let back = c .before .before in
+    let lead-at4 = back .lead-at4 in
+    let lead-at3 = back .before .lead-at3 in
+    let ahead = back .before .before .ahead in
+    let lead-at2 = back .before .before .before .lead-at2 in
+    let lead-at = back .before .before .before .before .lead-at in
+    first-ahead _
+    (c .ahead3 .ensures)
+    (first-ahead _ (ahead .ensures) (lead-at .ensures) (lead-at2 .ensures) refl refl)
+    (first-ahead _ (ahead2 .ensures) (lead-at3 .ensures) (lead-at4 .ensures) (omega arith) refl)
+    (omega arith)
+    (omega arith)
 
 pub four-spec : {M : Type 1} → statement M
 four-spec =

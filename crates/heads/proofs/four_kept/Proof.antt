@@ -41,7 +41,20 @@ ahead-requires-3 : tie.Need-ahead-requires-3
 ahead-requires-3 c κs = search needs
 
 returns : tie.Need-returns
-returns c = topped-ahead _ _ (c .ahead3 .ensures) (topped-ahead _ _ (c .before .before .before .before .ahead .ensures) (c .before .before .before .before .before .before .kept .ensures) (c .before .before .before .before .before .kept2 .ensures) refl refl) (topped-ahead _ _ (c .before .ahead2 .ensures) (c .before .before .before .kept3 .ensures) (c .before .before .kept4 .ensures) (omega arith) refl) (omega arith) (omega arith)
+returns c =
+    let ahead2 = c .before .ahead2 in
+    let back = c .before .before in
+    let kept4 = back .kept4 in
+    let kept3 = back .before .kept3 in
+    let ahead = back .before .before .ahead in
+    let kept2 = back .before .before .before .kept2 in
+    let kept = back .before .before .before .before .kept in
+    topped-ahead _ _
+    (c .ahead3 .ensures)
+    (topped-ahead _ _ (ahead .ensures) (kept .ensures) (kept2 .ensures) refl refl)
+    (topped-ahead _ _ (ahead2 .ensures) (kept3 .ensures) (kept4 .ensures) (omega arith) refl)
+    (omega arith)
+    (omega arith)
 
 pub four-kept-spec : {M : Type 1} → statement M
 four-kept-spec =

@@ -27,7 +27,10 @@ same-length-2 : tie.Need-same-length-2
 same-length-2 c = search needs
 
 returns : tie.Need-returns
-returns c = kept-is _ _ (half-first (c .before .before .before .before .before .pre .4) (c .before .if1 .taken) (c .four .ensures) (omega arith)) (sym (c .before .before .before .before .before .pre .4 .only (c .before .if1 .taken)))
+returns c =
+    let if1 = c .before .if1 in
+    let pre = c .before .before .before .before .before .pre in
+    kept-is _ _ (half-first (pre .4) (if1 .taken) (c .four .ensures) (omega arith)) (sym (pre .4 .only (if1 .taken)))
 
 mul-eight : tie.Need-mul-eight
 mul-eight c = search needs
@@ -54,7 +57,9 @@ same-length-4 : tie.Need-same-length-4
 same-length-4 c = search needs
 
 returns-2 : tie.Need-returns-2
-returns-2 c = kept-is _ _ (c .before .eight .ensures) (c .wide-size .ensures)
+returns-2 c =
+    let eight = c .before .eight in
+    kept-is _ _ (eight .ensures) (c .wide-size .ensures)
 
 pub keep-spec : {M : Type 1} → statement M
 keep-spec =

@@ -17,7 +17,9 @@ shared-slice-read-t6 : tie.Need-shared-slice-read-t6
 shared-slice-read-t6 c = search needs
 
 returns : tie.Need-returns
-returns c = first-one _ (c .before .wide-size .ensures)
+returns c =
+    let wide-size = c .before .wide-size in
+    first-one _ (wide-size .ensures)
 
 pub lead-at-spec : {M : Type 1} → statement M
 lead-at-spec = tie.close (tie.spec wide-size-requires mul-t4 shared-slice-read-t6 returns)

@@ -15,7 +15,9 @@ kept-requires : tie.Need-kept-requires
 kept-requires c κs = search needs
 
 returns : tie.Need-returns
-returns c = one (c .before .if1 .taken) (c .kept .ensures)
+returns c =
+    let if1 = c .before .if1 in
+    one (if1 .taken) (c .kept .ensures)
 
 four-kept-requires : tie.Need-four-kept-requires
 four-kept-requires c κs = search needs
@@ -27,7 +29,11 @@ ahead-requires : tie.Need-ahead-requires
 ahead-requires c κs = search needs
 
 returns-2 : tie.Need-returns-2
-returns-2 c = all (c .before .before .before .before .before .before .pre .2) (topped-ahead _ _ (c .ahead .ensures) (c .before .before .four-kept .ensures) (c .before .four-kept2 .ensures) refl refl)
+returns-2 c =
+    let four-kept2 = c .before .four-kept2 in
+    let four-kept = c .before .before .four-kept in
+    let pre = c .before .before .before .before .before .before .pre in
+    all (pre .2) (topped-ahead _ _ (c .ahead .ensures) (four-kept .ensures) (four-kept2 .ensures) refl refl)
 
 pub leader-spec : {M : Type 1} → statement M
 leader-spec =

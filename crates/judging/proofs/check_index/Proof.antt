@@ -17,13 +17,22 @@ tray-frame-requires : tie.Need-tray-frame-requires
 tray-frame-requires c κs = search needs
 
 judge-index-requires : tie.Need-judge-index-requires
-judge-index-requires c κs = records-opened _ (c .before .before .before .check-tray .ensures) (c .before .enum-told .given .1) (c .tray-frame .ensures)
+judge-index-requires c κs =
+    let enum-told = c .before .enum-told in
+    let check-tray = c .before .before .before .check-tray in
+    records-opened _ (check-tray .ensures) (enum-told .given .1) (c .tray-frame .ensures)
 
 returns : tie.Need-returns
-returns c = checked-tray _ _ (c .before .before .before .check-tray .ensures) (c .before .r .given .1)
+returns c =
+    let r = c .before .r in
+    let check-tray = c .before .before .before .check-tray in
+    checked-tray _ _ (check-tray .ensures) (r .given .1)
 
 returns-2 : tie.Need-returns-2
-returns-2 c = checked-index _ _ (c .before .before .before .before .check-tray .ensures) (c .before .before .enum-told .given .1) (c .judge-index .ensures)
+returns-2 c =
+    let enum-told = c .before .before .enum-told in
+    let check-tray = c .before .before .before .before .check-tray in
+    checked-index _ _ (check-tray .ensures) (enum-told .given .1) (c .judge-index .ensures)
 
 pub check-index-spec : {M : Type 1} → statement M
 check-index-spec =

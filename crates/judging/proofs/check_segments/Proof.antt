@@ -16,22 +16,42 @@ abbrev μ-loop : tie.MeasureT-loop
 μ-loop t x d n h counts starts places₀ g₀ places g = n - g
 
 loop-holds : tie.Need-loop-holds Inv-loop μ-loop
-loop-holds c = scanning-starts (c .before .before .before .before .pre .0)
+loop-holds c =
+    let opened = c .before .before .before .before .pre .0 in
+    scanning-starts opened
 
 segment-at-requires : tie.Need-segment-at-requires Inv-loop μ-loop
 segment-at-requires c κs = search needs
 
 slice-aggregate-segment : tie.Need-slice-aggregate-segment Inv-loop μ-loop
-slice-aggregate-segment c = sym (c .before .before .before .before .before .before .before .before .pre .0 .room)
+slice-aggregate-segment c =
+    let opened = c .before .before .before .before .before .before .before .before .pre .0 in
+    sym (opened .room)
 
 slice-aggregate-segment-2 : tie.Need-slice-aggregate-segment-2 Inv-loop μ-loop
-slice-aggregate-segment-2 c = sym (c .before .before .before .before .before .before .before .before .before .pre .0 .at .room)
+slice-aggregate-segment-2 c =
+    let opened = c .before .before .before .before .before .before .before .before .before .pre .0 in
+    sym (opened .at .room)
 
 slice-aggregate-segment-3 : tie.Need-slice-aggregate-segment-3 Inv-loop μ-loop
-slice-aggregate-segment-3 c = sym (c .before .before .before .before .before .loop .inv .reading .room-places)
+slice-aggregate-segment-3 c =
+    let loop = c .before .before .before .before .before .loop in
+    sym (loop .inv .reading .room-places)
 
 segment-requires : tie.Need-segment-requires Inv-loop μ-loop
-segment-requires c κs = (c .before .before .before .before .before .loop .inv .reading, ((c .before .before .before .before .before .before .before .before .before .before .pre .0 .runs, omega (arith, c .before .before .before .before .before .before .before .before .before .before .pre .1 .least, c .before .before .before .before .before .before .before .before .before .before .pre .0 .at .frame .some-run)), segment-within (c .before .before .before .before .before .before .before .before .before .before .pre .1) (c .before .before .before .before .before .before .before .before .before .before .pre .0 .runs) (c .before .before .before .before .loop-test .taken) (c .before .before .before .segment-at .ensures)))
+segment-requires c κs =
+    let back = c .before .before .before in
+    let segment-at = back .segment-at in
+    let loop-test = back .before .loop-test in
+    let loop = back .before .before .loop in
+    let opened = back .before .before .before .before .before .before .before .pre .0 in
+    let laid = back .before .before .before .before .before .before .before .pre .1 in (
+      loop .inv .reading,
+      (
+        (opened .runs, omega (arith, laid .least, opened .at .frame .some-run)),
+        segment-within laid (opened .runs) (loop-test .taken) (segment-at .ensures),
+      ),
+    )
 
 add-g : tie.Need-add-g Inv-loop μ-loop
 add-g c = omega arith
@@ -40,28 +60,66 @@ loop-less : tie.Need-loop-less Inv-loop μ-loop
 loop-less c = omega arith
 
 loop-again : tie.Need-loop-again Inv-loop μ-loop
-loop-again c = scanning-on (c .before .before .before .before .before .before .before .before .loop .inv) _ _ (c .before .before .before .before .before .before .before .loop-test .taken) (c .before .before .before .before .before .before .segment-at .ensures) (c .before .before .segment .ensures) (c .if1 .taken) (c .before .before .segment .kept .1 .1 .1 .1 .1 .1 .1 .0)
+loop-again c =
+    let back = c .before .before in
+    let segment = back .segment in
+    let segment-places-kept = back .segment .kept .1 .1 .1 .1 .1 .1 .1 .0 in
+    let back = back .before .before .before .before in
+    let segment-at = back .segment-at in
+    let loop-test = back .before .loop-test in
+    let loop = back .before .before .loop in
+    scanning-on (loop .inv) _ _ (loop-test .taken) (segment-at .ensures) (segment .ensures) (c .if1 .taken) segment-places-kept
 
 cast-t21 : tie.Need-cast-t21 Inv-loop μ-loop
 cast-t21 c = search needs
 
 returns : tie.Need-returns Inv-loop μ-loop
-returns c = scanned-wrong (c .before .before .before .before .before .before .before .before .before .before .before .before .before .pre .1) (c .before .before .before .before .before .before .before .before .before .before .before .before .before .pre .0 .runs) (c .before .before .before .before .before .before .before .before .loop .inv) _ _ (c .before .before .before .before .before .before .before .loop-test .taken) (c .before .before .before .before .before .before .segment-at .ensures) (c .before .before .segment .ensures) (c .if1 .left)
+returns c =
+    let back = c .before .before in
+    let segment = back .segment in
+    let back = back .before .before .before .before in
+    let segment-at = back .segment-at in
+    let loop-test = back .before .loop-test in
+    let loop = back .before .before .loop in
+    let opened = back .before .before .before .before .before .before .before .pre .0 in
+    let laid = back .before .before .before .before .before .before .before .pre .1 in
+    scanned-wrong laid (opened .runs) (loop .inv) _ _ (loop-test .taken) (segment-at .ensures) (segment .ensures) (c .if1 .left)
 
 slice-aggregate-used-up : tie.Need-slice-aggregate-used-up Inv-loop μ-loop
-slice-aggregate-used-up c = sym (c .before .before .before .before .before .before .before .pre .0 .room)
+slice-aggregate-used-up c =
+    let opened = c .before .before .before .before .before .before .before .pre .0 in
+    sym (opened .room)
 
 slice-aggregate-used-up-2 : tie.Need-slice-aggregate-used-up-2 Inv-loop μ-loop
-slice-aggregate-used-up-2 c = sym (c .before .before .before .loop .inv .reading .room-places)
+slice-aggregate-used-up-2 c =
+    let loop = c .before .before .before .loop in
+    sym (loop .inv .reading .room-places)
 
 used-up-requires : tie.Need-used-up-requires Inv-loop μ-loop
-used-up-requires c κs = omega (arith, c .before .before .before .before .before .before .before .before .pre .0 .room, c .before .before .before .before .before .before .before .before .pre .0 .few, c .before .before .before .loop .inv .reading .room-places)
+used-up-requires c κs =
+    let loop = c .before .before .before .loop in
+    let opened = c .before .before .before .before .before .before .before .before .pre .0 in
+    omega (arith, opened .room, opened .few, loop .inv .reading .room-places)
 
 returns-2 : tie.Need-returns-2 Inv-loop μ-loop
-returns-2 c = scanned-through (c .before .before .before .before .before .before .before .before .before .before .pre .1) (c .before .before .before .before .before .before .before .before .before .before .pre .0 .runs) (c .before .before .before .before .before .loop .inv) (c .before .before .before .before .loop-test .left) (c .before .used-up .ensures) (c .if2 .taken)
+returns-2 c =
+    let used-up = c .before .used-up in
+    let back = c .before .before .before .before in
+    let loop-test = back .loop-test in
+    let loop = back .before .loop in
+    let opened = back .before .before .before .before .before .before .pre .0 in
+    let laid = back .before .before .before .before .before .before .pre .1 in
+    scanned-through laid (opened .runs) (loop .inv) (loop-test .left) (used-up .ensures) (c .if2 .taken)
 
 returns-3 : tie.Need-returns-3 Inv-loop μ-loop
-returns-3 c = scanned-left (c .before .before .before .before .before .before .before .before .before .before .pre .1) (c .before .before .before .before .before .before .before .before .before .before .pre .0 .runs) (c .before .before .before .before .before .loop .inv) (c .before .before .before .before .loop-test .left) (c .before .used-up .ensures) (c .if2 .left)
+returns-3 c =
+    let used-up = c .before .used-up in
+    let back = c .before .before .before .before in
+    let loop-test = back .loop-test in
+    let loop = back .before .loop in
+    let opened = back .before .before .before .before .before .before .pre .0 in
+    let laid = back .before .before .before .before .before .before .pre .1 in
+    scanned-left laid (opened .runs) (loop .inv) (loop-test .left) (used-up .ensures) (c .if2 .left)
 
 pub check-segments-spec : {M : Type 1} → statement M
 check-segments-spec =

@@ -13,16 +13,27 @@ enum-known-d : tie.Need-enum-known-d
 enum-known-d c = search needs
 
 check-segments-requires : tie.Need-check-segments-requires
-check-segments-requires c κs = (c .before .before .before .before .before .before .pre, laid _ _ (c .before .before .before .before .before .before .pre .runs) (sym (c .before .d .given .1) ∙ c .before .before .before .index-frame .ensures))
+check-segments-requires c κs =
+    let d = c .before .d in
+    let index-frame = c .before .before .before .index-frame in
+    let opened = c .before .before .before .before .before .before .pre in
+    (opened, laid _ _ (opened .runs) (sym (d .given .1) ∙ index-frame .ensures))
 
 enum-told : tie.Need-enum-told
 enum-told c = search needs
 
 returns : tie.Need-returns
-returns c = judged-frame _ _ (c .before .before .before .before .before .before .before .pre .runs) (sym (c .before .before .d .given .1) ∙ c .before .before .before .before .index-frame .ensures) (c .check-segments .ensures)
+returns c =
+    let d = c .before .before .d in
+    let index-frame = c .before .before .before .before .index-frame in
+    let opened = c .before .before .before .before .before .before .before .pre in
+    judged-frame _ _ (opened .runs) (sym (d .given .1) ∙ index-frame .ensures) (c .check-segments .ensures)
 
 returns-2 : tie.Need-returns-2
-returns-2 c = judged-wrong _ _ (c .before .before .before .before .before .pre .runs) (sym (c .enum-told .given .1) ∙ c .before .before .index-frame .ensures)
+returns-2 c =
+    let index-frame = c .before .before .index-frame in
+    let opened = c .before .before .before .before .before .pre in
+    judged-wrong _ _ (opened .runs) (sym (c .enum-told .given .1) ∙ index-frame .ensures)
 
 pub judge-index-spec : {M : Type 1} → statement M
 judge-index-spec =

@@ -23,13 +23,19 @@ refuse-requires : tie.Need-refuse-requires
 refuse-requires c κs = search needs
 
 returns : tie.Need-returns
-returns c = sought-found (c .before .before .before .a .given .1) (c .put-cursor .ensures)
+returns c =
+    let a = c .before .before .before .a in
+    sought-found (a .given .1) (c .put-cursor .ensures)
 
 returns-2 : tie.Need-returns-2
-returns-2 c = sought-end (c .before .before .enum-told .given .1) (c .put-cursor2 .ensures)
+returns-2 c =
+    let enum-told = c .before .before .enum-told in
+    sought-end (enum-told .given .1) (c .put-cursor2 .ensures)
 
 returns-3 : tie.Need-returns-3
-returns-3 c = sought-refused (c .before .before .before .a2 .given .1) (c .refuse .ensures)
+returns-3 c =
+    let a2 = c .before .before .before .a2 in
+    sought-refused (a2 .given .1) (c .refuse .ensures)
 
 pub hand-over-spec : {M : Type 1} → statement M
 hand-over-spec =

@@ -23,13 +23,34 @@ same-length : tie.Need-same-length
 same-length c = search needs
 
 returns : tie.Need-returns
-returns c = build-wrote (c .before .before .before .before .before .before .before .before .before .before .args .tray .now) (c .before .before .before .before .before .before .before .before .before .before .args .d) (c .before .before .before .before .before .before .before .before .before .before .args .out .now) (c .before .before .before .before .before .before .before .narrow .ensures) (c .before .before .before .before .before .build .ensures .0) (c .before .before .before .before .before .build .ensures .1) (c .before .a .given .1)
+returns c =
+    let a = c .before .a in
+    let back = c .before .before .before .before .before in
+    let build = back .build in
+    let narrow = back .before .before .narrow in
+    let args = back .before .before .before .before .before .args in
+    build-wrote (args .tray .now) (args .d) (args .out .now) (narrow .ensures) (build .ensures .0) (build .ensures .1) (a .given .1)
 
 same-length-2 : tie.Need-same-length-2
 same-length-2 c = search needs
 
 returns-2 : tie.Need-returns-2
-returns-2 c = build-refused (c .before .before .before .before .before .before .before .before .before .before .before .before .args .tray .now) (c .before .before .before .before .before .before .before .before .before .before .before .before .args .d) (c .before .before .before .before .before .before .before .before .before .before .before .before .args .out .now) (c .before .before .before .before .before .before .before .before .before .narrow .ensures) (c .before .before .before .before .before .before .before .build .ensures .0) (c .before .before .before .before .before .before .before .build .ensures .1) (c .before .before .before .a2 .given .1) (c .refuse-own .ensures)
+returns-2 c =
+    let back = c .before .before .before in
+    let a2 = back .a2 in
+    let back = back .before .before .before .before in
+    let build = back .build in
+    let narrow = back .before .before .narrow in
+    let args = back .before .before .before .before .before .args in
+    build-refused
+    (args .tray .now)
+    (args .d)
+    (args .out .now)
+    (narrow .ensures)
+    (build .ensures .0)
+    (build .ensures .1)
+    (a2 .given .1)
+    (c .refuse-own .ensures)
 
 pub kanyorith-build-spec : {M : Type 1} → statement M
 kanyorith-build-spec =

@@ -17,10 +17,16 @@ refuse-requires : tie.Need-refuse-requires
 refuse-requires c κs = search needs
 
 returns : tie.Need-returns
-returns c = index-segments (c .before .a .given .1) (c .before .before .before .check-index .ensures)
+returns c =
+    let a = c .before .a in
+    let check-index = c .before .before .before .check-index in
+    index-segments (a .given .1) (check-index .ensures)
 
 returns-2 : tie.Need-returns-2
-returns-2 c = index-refused (c .before .before .before .a2 .given .1) (c .before .before .before .before .before .check-index .ensures) (c .refuse .ensures)
+returns-2 c =
+    let a2 = c .before .before .before .a2 in
+    let check-index = c .before .before .before .before .before .check-index in
+    index-refused (a2 .given .1) (check-index .ensures) (c .refuse .ensures)
 
 pub kanyorith-check-index-spec : {M : Type 1} → statement M
 kanyorith-check-index-spec =

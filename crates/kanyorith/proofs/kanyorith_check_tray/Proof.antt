@@ -17,10 +17,16 @@ refuse-requires : tie.Need-refuse-requires
 refuse-requires c κs = search needs
 
 returns : tie.Need-returns
-returns c = tray-records (c .before .a .given .1) (c .before .before .before .check-tray .ensures)
+returns c =
+    let a = c .before .a in
+    let check-tray = c .before .before .before .check-tray in
+    tray-records (a .given .1) (check-tray .ensures)
 
 returns-2 : tie.Need-returns-2
-returns-2 c = tray-refused (c .before .before .before .a2 .given .1) (c .before .before .before .before .before .check-tray .ensures) (c .refuse .ensures)
+returns-2 c =
+    let a2 = c .before .before .before .a2 in
+    let check-tray = c .before .before .before .before .before .check-tray in
+    tray-refused (a2 .given .1) (check-tray .ensures) (c .refuse .ensures)
 
 pub kanyorith-check-tray-spec : {M : Type 1} → statement M
 kanyorith-check-tray-spec =

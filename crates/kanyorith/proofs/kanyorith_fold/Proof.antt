@@ -26,13 +26,47 @@ same-length : tie.Need-same-length
 same-length c = search needs
 
 returns : tie.Need-returns
-returns c = fold-wrote (c .before .before .before .before .before .before .before .before .before .before .before .args .tray .now) (c .before .before .before .before .before .before .before .before .before .before .before .args .a) (c .before .before .before .before .before .before .before .before .before .before .before .args .b) (c .before .before .before .before .before .before .before .before .before .before .before .args .out .now) (c .before .before .before .before .before .before .before .before .narrow .ensures) (c .before .before .before .before .before .before .before .narrow2 .ensures) (c .before .before .before .before .before .fold .ensures .0) (c .before .before .before .before .before .fold .ensures .1) (c .before .x .given .1)
+returns c =
+    let x = c .before .x in
+    let back = c .before .before .before .before .before in
+    let fold = back .fold in
+    let narrow2 = back .before .before .narrow2 in
+    let narrow = back .before .before .before .narrow in
+    let args = back .before .before .before .before .before .before .args in
+    fold-wrote
+    (args .tray .now)
+    (args .a)
+    (args .b)
+    (args .out .now)
+    (narrow .ensures)
+    (narrow2 .ensures)
+    (fold .ensures .0)
+    (fold .ensures .1)
+    (x .given .1)
 
 same-length-2 : tie.Need-same-length-2
 same-length-2 c = search needs
 
 returns-2 : tie.Need-returns-2
-returns-2 c = fold-refused (c .before .before .before .before .before .before .before .before .before .before .before .before .before .args .tray .now) (c .before .before .before .before .before .before .before .before .before .before .before .before .before .args .a) (c .before .before .before .before .before .before .before .before .before .before .before .before .before .args .b) (c .before .before .before .before .before .before .before .before .before .before .before .before .before .args .out .now) (c .before .before .before .before .before .before .before .before .before .before .narrow .ensures) (c .before .before .before .before .before .before .before .before .before .narrow2 .ensures) (c .before .before .before .before .before .before .before .fold .ensures .0) (c .before .before .before .before .before .before .before .fold .ensures .1) (c .before .before .before .x2 .given .1) (c .refuse-own .ensures)
+returns-2 c =
+    let back = c .before .before .before in
+    let x2 = back .x2 in
+    let back = back .before .before .before .before in
+    let fold = back .fold in
+    let narrow2 = back .before .before .narrow2 in
+    let narrow = back .before .before .before .narrow in
+    let args = back .before .before .before .before .before .before .args in
+    fold-refused
+    (args .tray .now)
+    (args .a)
+    (args .b)
+    (args .out .now)
+    (narrow .ensures)
+    (narrow2 .ensures)
+    (fold .ensures .0)
+    (fold .ensures .1)
+    (x2 .given .1)
+    (c .refuse-own .ensures)
 
 pub kanyorith-fold-spec : {M : Type 1} → statement M
 kanyorith-fold-spec =

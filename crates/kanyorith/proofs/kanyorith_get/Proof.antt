@@ -20,13 +20,24 @@ refuse-requires : tie.Need-refuse-requires
 refuse-requires c κs = search needs
 
 returns : tie.Need-returns
-returns c = get-found (c .before .before .before .before .before .before .args .tray .now) (c .before .before .before .before .before .before .args .index .now) (c .before .before .before .before .before .before .args .key .now) (c .before .before .before .before .before .before .args .value .now) (c .before .before .before .get .ensures) (c .before .enum-told .given .1)
+returns c =
+    let enum-told = c .before .enum-told in
+    let get = c .before .before .before .get in
+    let args = c .before .before .before .before .before .before .args in
+    get-found (args .tray .now) (args .index .now) (args .key .now) (args .value .now) (get .ensures) (enum-told .given .1)
 
 returns-2 : tie.Need-returns-2
-returns-2 c = get-absent (c .before .before .before .before .before .args .tray .now) (c .before .before .before .before .before .args .index .now) (c .before .before .before .before .before .args .key .now) (c .before .before .before .before .before .args .value .now) (c .before .before .get .ensures) (c .enum-told2 .given .1)
+returns-2 c =
+    let get = c .before .before .get in
+    let args = c .before .before .before .before .before .args in
+    get-absent (args .tray .now) (args .index .now) (args .key .now) (args .value .now) (get .ensures) (c .enum-told2 .given .1)
 
 returns-3 : tie.Need-returns-3
-returns-3 c = get-refused (c .before .before .before .before .before .before .before .before .args .tray .now) (c .before .before .before .before .before .before .before .before .args .index .now) (c .before .before .before .before .before .before .before .before .args .key .now) (c .before .before .before .before .before .before .before .before .args .value .now) (c .before .before .before .before .before .get .ensures) (c .before .before .before .a .given .1) (c .refuse .ensures)
+returns-3 c =
+    let a = c .before .before .before .a in
+    let get = c .before .before .before .before .before .get in
+    let args = c .before .before .before .before .before .before .before .before .args in
+    get-refused (args .tray .now) (args .index .now) (args .key .now) (args .value .now) (get .ensures) (a .given .1) (c .refuse .ensures)
 
 pub kanyorith-get-spec : {M : Type 1} → statement M
 kanyorith-get-spec =

@@ -18,7 +18,25 @@ hand-over-requires : tie.Need-hand-over-requires
 hand-over-requires c κs = search needs
 
 returns : tie.Need-returns
-returns c = record { sought = sought-narrow (c .before .before .before .before .before .before .before .before .before .before .before .args .tray .now) (c .before .before .before .before .before .before .before .before .before .before .before .args .index .now) (cursorIn (c .before .before .before .before .before .before .before .before .before .before .before .args .cursor .now)) (subst (λ a. Sought a (c .before .before .before .before .before .before .before .before .before .before .before .args .run .now) (c .before .before .before .before .before .before .before .before .before .before .before .args .place .now) (c .before .before .before .before .before .before .before .before .before .before .before .args .cursor .now) (c .hand-over .result) (c .hand-over .last .1 .1 .1 .1 .0) (c .hand-over .last .1 .0) (c .hand-over .last .1 .1 .0) (c .hand-over .last .1 .1 .1 .0)) (c .before .before .before .before .before .next .ensures ∙ ap (nextAnswer (c .before .before .before .before .before .before .before .before .before .before .before .args .tray .now) (c .before .before .before .before .before .before .before .before .before .before .before .args .index .now)) (c .before .before .before .before .before .before .cursor-in .ensures)) (c .hand-over .ensures)) }
+returns c =
+    let hand-over-run-last = c .hand-over .last .1 .0 in
+    let hand-over-place-last = c .hand-over .last .1 .1 .0 in
+    let hand-over-cursor-last = c .hand-over .last .1 .1 .1 .0 in
+    let hand-over-figure-last = c .hand-over .last .1 .1 .1 .1 .0 in
+    let back = c .before .before .before .before .before in
+    let next = back .next in
+    let cursor-in = back .before .cursor-in in
+    let args = back .before .before .before .before .before .before .args in
+    record {
+      sought = sought-narrow
+          (args .tray .now)
+          (args .index .now)
+          (cursorIn (args .cursor .now))
+          (subst
+          (λ a. Sought a (args .run .now) (args .place .now) (args .cursor .now) (c .hand-over .result) hand-over-figure-last hand-over-run-last
+          hand-over-place-last hand-over-cursor-last) (next .ensures ∙ ap (nextAnswer (args .tray .now) (args .index .now)) (cursor-in .ensures))
+          (c .hand-over .ensures));
+    }
 
 pub kanyorith-next-spec : {M : Type 1} → statement M
 kanyorith-next-spec =

@@ -38,19 +38,82 @@ same-length : tie.Need-same-length
 same-length c = search needs
 
 returns : tie.Need-returns
-returns c = record { paging = page-narrow (c .before .before .before .before .before .before .before .before .before .before .before .before .before .before .args .tray .now) (c .before .before .before .before .before .before .before .before .before .before .before .before .before .before .args .index .now) (cursorIn (c .before .before .before .before .before .before .before .before .before .before .before .before .before .before .args .cursor .now)) (c .before .before .before .before .before .before .before .before .before .before .before .before .before .before .args .out .now) (subst (λ a. Paging a (pageLeaves (c .before .before .before .before .before .before .before .before .before .before .before .before .before .before .args .tray .now) (c .before .before .before .before .before .before .before .before .before .before .before .before .before .before .args .index .now) (narrowCursor (cursorIn (c .before .before .before .before .before .before .before .before .before .before .before .before .before .before .args .cursor .now))) (c .before .before .before .before .before .before .before .before .before .before .before .before .before .before .args .out .now)) (c .before .before .before .before .before .before .before .before .before .before .before .before .before .before .args .cursor .now) 0 1 (c .before .before .before .before .before .before .page .result .count) (c .put-cursor .last .1 .0) (c .before .before .before .before .before .before .page .last .1 .1 .1 .0)) (c .before .before .before .before .before .before .page .ensures .0 ∙ ap (λ k. pageAnswer (c .before .before .before .before .before .before .before .before .before .before .before .before .before .before .args .tray .now) (c .before .before .before .before .before .before .before .before .before .before .before .before .before .before .args .index .now) k (c .before .before .before .before .before .before .before .before .before .before .before .before .before .before .args .out .now)) (c .before .before .before .before .before .before .before .before .cursor-in .ensures)) (page-more (c .before .before .before .before .before .before .page .ensures .1 ∙ ap (λ k. pageLeaves (c .before .before .before .before .before .before .before .before .before .before .before .before .before .before .args .tray .now) (c .before .before .before .before .before .before .before .before .before .before .before .before .before .before .args .index .now) k (c .before .before .before .before .before .before .before .before .before .before .before .before .before .before .args .out .now)) (c .before .before .before .before .before .before .before .before .cursor-in .ensures)) (c .before .before .enum-told .given .1) (c .put-cursor .ensures))) }
+returns c =
+    let put-cursor-numbers-last = c .put-cursor .last .1 .0 in
+    let back = c .before .before in
+    let enum-told = back .enum-told in
+    let back = back .before .before .before .before in
+    let page = back .page in
+    let page-out-last = back .page .last .1 .1 .1 .0 in
+    let cursor-in = back .before .before .cursor-in in
+    let args = back .before .before .before .before .before .before .before .before .args in
+    record {
+      paging = page-narrow
+          (args .tray .now)
+          (args .index .now)
+          (cursorIn (args .cursor .now))
+          (args .out .now)
+          (subst
+          (λ a. Paging a (pageLeaves (args .tray .now) (args .index .now) (narrowCursor (cursorIn (args .cursor .now))) (args .out .now))
+          (args .cursor .now) 0 1 (page .result .count) put-cursor-numbers-last page-out-last)
+          (page .ensures .0 ∙ ap (λ k. pageAnswer (args .tray .now) (args .index .now) k (args .out .now)) (cursor-in .ensures))
+          (page-more (page .ensures .1 ∙ ap (λ k. pageLeaves (args .tray .now) (args .index .now) k (args .out .now)) (cursor-in .ensures))
+          (enum-told .given .1) (c .put-cursor .ensures)));
+    }
 
 same-length-2 : tie.Need-same-length-2
 same-length-2 c = search needs
 
 returns-2 : tie.Need-returns-2
-returns-2 c = record { paging = page-narrow (c .before .before .before .before .before .before .before .before .before .before .before .before .before .before .args .tray .now) (c .before .before .before .before .before .before .before .before .before .before .before .before .before .before .args .index .now) (cursorIn (c .before .before .before .before .before .before .before .before .before .before .before .before .before .before .args .cursor .now)) (c .before .before .before .before .before .before .before .before .before .before .before .before .before .before .args .out .now) (subst (λ a. Paging a (pageLeaves (c .before .before .before .before .before .before .before .before .before .before .before .before .before .before .args .tray .now) (c .before .before .before .before .before .before .before .before .before .before .before .before .before .before .args .index .now) (narrowCursor (cursorIn (c .before .before .before .before .before .before .before .before .before .before .before .before .before .before .args .cursor .now))) (c .before .before .before .before .before .before .before .before .before .before .before .before .before .before .args .out .now)) (c .before .before .before .before .before .before .before .before .before .before .before .before .before .before .args .cursor .now) 0 0 (c .before .before .before .before .before .before .page .result .count) (c .put-cursor2 .last .1 .0) (c .before .before .before .before .before .before .page .last .1 .1 .1 .0)) (c .before .before .before .before .before .before .page .ensures .0 ∙ ap (λ k. pageAnswer (c .before .before .before .before .before .before .before .before .before .before .before .before .before .before .args .tray .now) (c .before .before .before .before .before .before .before .before .before .before .before .before .before .before .args .index .now) k (c .before .before .before .before .before .before .before .before .before .before .before .before .before .before .args .out .now)) (c .before .before .before .before .before .before .before .before .cursor-in .ensures)) (page-end (c .before .before .before .before .before .before .page .ensures .1 ∙ ap (λ k. pageLeaves (c .before .before .before .before .before .before .before .before .before .before .before .before .before .before .args .tray .now) (c .before .before .before .before .before .before .before .before .before .before .before .before .before .before .args .index .now) k (c .before .before .before .before .before .before .before .before .before .before .before .before .before .before .args .out .now)) (c .before .before .before .before .before .before .before .before .cursor-in .ensures)) (c .before .before .enum-told2 .given .1) (c .put-cursor2 .ensures))) }
+returns-2 c =
+    let put-cursor2-numbers-last = c .put-cursor2 .last .1 .0 in
+    let back = c .before .before in
+    let enum-told2 = back .enum-told2 in
+    let back = back .before .before .before .before in
+    let page = back .page in
+    let page-out-last = back .page .last .1 .1 .1 .0 in
+    let cursor-in = back .before .before .cursor-in in
+    let args = back .before .before .before .before .before .before .before .before .args in
+    record {
+      paging = page-narrow
+          (args .tray .now)
+          (args .index .now)
+          (cursorIn (args .cursor .now))
+          (args .out .now)
+          (subst
+          (λ a. Paging a (pageLeaves (args .tray .now) (args .index .now) (narrowCursor (cursorIn (args .cursor .now))) (args .out .now))
+          (args .cursor .now) 0 0 (page .result .count) put-cursor2-numbers-last page-out-last)
+          (page .ensures .0 ∙ ap (λ k. pageAnswer (args .tray .now) (args .index .now) k (args .out .now)) (cursor-in .ensures))
+          (page-end (page .ensures .1 ∙ ap (λ k. pageLeaves (args .tray .now) (args .index .now) k (args .out .now)) (cursor-in .ensures))
+          (enum-told2 .given .1) (c .put-cursor2 .ensures)));
+    }
 
 same-length-3 : tie.Need-same-length-3
 same-length-3 c = search needs
 
 returns-3 : tie.Need-returns-3
-returns-3 c = record { paging = page-narrow (c .before .before .before .before .before .before .before .before .before .before .before .before .before .before .before .args .tray .now) (c .before .before .before .before .before .before .before .before .before .before .before .before .before .before .before .args .index .now) (cursorIn (c .before .before .before .before .before .before .before .before .before .before .before .before .before .before .before .args .cursor .now)) (c .before .before .before .before .before .before .before .before .before .before .before .before .before .before .before .args .out .now) (subst (λ a. Paging a (pageLeaves (c .before .before .before .before .before .before .before .before .before .before .before .before .before .before .before .args .tray .now) (c .before .before .before .before .before .before .before .before .before .before .before .before .before .before .before .args .index .now) (narrowCursor (cursorIn (c .before .before .before .before .before .before .before .before .before .before .before .before .before .before .before .args .cursor .now))) (c .before .before .before .before .before .before .before .before .before .before .before .before .before .before .before .args .out .now)) (c .before .before .before .before .before .before .before .before .before .before .before .before .before .before .before .args .cursor .now) (c .refuse .result) (c .refuse .last .1 .0) (c .before .before .before .before .before .before .before .page .result .count) (c .before .before .before .before .before .before .before .before .before .before .before .before .before .before .before .args .cursor .now) (c .before .before .before .before .before .before .before .page .last .1 .1 .1 .0)) (c .before .before .before .before .before .before .before .page .ensures .0 ∙ ap (λ k. pageAnswer (c .before .before .before .before .before .before .before .before .before .before .before .before .before .before .before .args .tray .now) (c .before .before .before .before .before .before .before .before .before .before .before .before .before .before .before .args .index .now) k (c .before .before .before .before .before .before .before .before .before .before .before .before .before .before .before .args .out .now)) (c .before .before .before .before .before .before .before .before .before .cursor-in .ensures)) (page-refused (c .before .before .before .before .before .before .before .page .ensures .1 ∙ ap (λ k. pageLeaves (c .before .before .before .before .before .before .before .before .before .before .before .before .before .before .before .args .tray .now) (c .before .before .before .before .before .before .before .before .before .before .before .before .before .before .before .args .index .now) k (c .before .before .before .before .before .before .before .before .before .before .before .before .before .before .before .args .out .now)) (c .before .before .before .before .before .before .before .before .before .cursor-in .ensures)) (c .before .before .before .a .given .1) (c .refuse .ensures))) }
+returns-3 c =
+    let refuse-figure-last = c .refuse .last .1 .0 in
+    let back = c .before .before .before in
+    let a-step = back .a in
+    let back = back .before .before .before .before in
+    let page = back .page in
+    let page-out-last = back .page .last .1 .1 .1 .0 in
+    let cursor-in = back .before .before .cursor-in in
+    let args = back .before .before .before .before .before .before .before .before .args in
+    record {
+      paging = page-narrow
+          (args .tray .now)
+          (args .index .now)
+          (cursorIn (args .cursor .now))
+          (args .out .now)
+          (subst
+          (λ a. Paging a (pageLeaves (args .tray .now) (args .index .now) (narrowCursor (cursorIn (args .cursor .now))) (args .out .now))
+          (args .cursor .now) (c .refuse .result) refuse-figure-last (page .result .count) (args .cursor .now) page-out-last)
+          (page .ensures .0 ∙ ap (λ k. pageAnswer (args .tray .now) (args .index .now) k (args .out .now)) (cursor-in .ensures))
+          (page-refused (page .ensures .1 ∙ ap (λ k. pageLeaves (args .tray .now) (args .index .now) k (args .out .now)) (cursor-in .ensures))
+          (a-step .given .1) (c .refuse .ensures)));
+    }
 
 pub kanyorith-page-spec : {M : Type 1} → statement M
 kanyorith-page-spec =

@@ -12,7 +12,20 @@ hand-over-requires : tie.Need-hand-over-requires
 hand-over-requires c κs = search needs
 
 returns : tie.Need-returns
-returns c = record { sought = subst (λ a. Sought a (c .before .before .before .before .before .before .before .before .args .run .now) (c .before .before .before .before .before .before .before .before .args .place .now) (c .before .before .before .before .before .before .before .before .args .cursor .now) (c .hand-over .result) (c .hand-over .last .1 .1 .1 .1 .0) (c .hand-over .last .1 .0) (c .hand-over .last .1 .1 .0) (c .hand-over .last .1 .1 .1 .0)) (c .before .before .before .before .before .seek .ensures) (c .hand-over .ensures) }
+returns c =
+    let hand-over-run-last = c .hand-over .last .1 .0 in
+    let hand-over-place-last = c .hand-over .last .1 .1 .0 in
+    let hand-over-cursor-last = c .hand-over .last .1 .1 .1 .0 in
+    let hand-over-figure-last = c .hand-over .last .1 .1 .1 .1 .0 in
+    let seek = c .before .before .before .before .before .seek in
+    let args = c .before .before .before .before .before .before .before .before .args in
+    record {
+      sought = subst
+          (λ a. Sought a (args .run .now) (args .place .now) (args .cursor .now) (c .hand-over .result) hand-over-figure-last hand-over-run-last
+          hand-over-place-last hand-over-cursor-last)
+          (seek .ensures)
+          (c .hand-over .ensures);
+    }
 
 pub kanyorith-seek-spec : {M : Type 1} → statement M
 kanyorith-seek-spec = tie.close (tie.spec seek-requires hand-over-requires returns)

@@ -20,13 +20,29 @@ same-length : tie.Need-same-length
 same-length c = search needs
 
 returns : tie.Need-returns
-returns c = sheet-listed (c .before .before .before .before .before .before .before .before .before .before .before .args .tray .now) (c .before .before .before .before .before .before .before .before .before .before .before .args .index .now) (c .before .before .before .before .before .before .before .before .before .before .before .args .prefix .now) (c .before .before .before .before .before .before .before .before .before .before .before .args .out .now) (c .before .before .before .before .before .sheet .ensures .0) (c .before .before .before .before .before .sheet .ensures .1) (c .before .a .given .1)
+returns c =
+    let a = c .before .a in
+    let sheet = c .before .before .before .before .before .sheet in
+    let args = c .before .before .before .before .before .before .before .before .before .before .before .args in
+    sheet-listed (args .tray .now) (args .index .now) (args .prefix .now) (args .out .now) (sheet .ensures .0) (sheet .ensures .1) (a .given .1)
 
 same-length-2 : tie.Need-same-length-2
 same-length-2 c = search needs
 
 returns-2 : tie.Need-returns-2
-returns-2 c = sheet-refused (c .before .before .before .before .before .before .before .before .before .before .before .before .before .args .tray .now) (c .before .before .before .before .before .before .before .before .before .before .before .before .before .args .index .now) (c .before .before .before .before .before .before .before .before .before .before .before .before .before .args .prefix .now) (c .before .before .before .before .before .before .before .before .before .before .before .before .before .args .out .now) (c .before .before .before .before .before .before .before .sheet .ensures .0) (c .before .before .before .before .before .before .before .sheet .ensures .1) (c .before .before .before .a2 .given .1) (c .refuse .ensures)
+returns-2 c =
+    let a2 = c .before .before .before .a2 in
+    let sheet = c .before .before .before .before .before .before .before .sheet in
+    let args = c .before .before .before .before .before .before .before .before .before .before .before .before .before .args in
+    sheet-refused
+    (args .tray .now)
+    (args .index .now)
+    (args .prefix .now)
+    (args .out .now)
+    (sheet .ensures .0)
+    (sheet .ensures .1)
+    (a2 .given .1)
+    (c .refuse .ensures)
 
 pub kanyorith-sheet-spec : {M : Type 1} → statement M
 kanyorith-sheet-spec =

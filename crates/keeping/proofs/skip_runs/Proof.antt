@@ -20,13 +20,18 @@ mul-places : tie.Need-mul-places Inv-loop μ-loop
 mul-places c = search needs
 
 shared-slice-read-places : tie.Need-shared-slice-read-places Inv-loop μ-loop
-shared-slice-read-places c = omega (arith, c .before .before .before .pre)
+shared-slice-read-places c =
+    let pre = c .before .before .before .pre in
+    omega (arith, pre)
 
 mul-places-2 : tie.Need-mul-places-2 Inv-loop μ-loop
 mul-places-2 c = search needs
 
 slice-write-places : tie.Need-slice-write-places Inv-loop μ-loop
-slice-write-places c = omega (arith, c .before .before .before .pre, c .before .before .loop .inv .2 .room)
+slice-write-places c =
+    let loop = c .before .before .loop in
+    let pre = c .before .before .before .pre in
+    omega (arith, pre, loop .inv .2 .room)
 
 add-i : tie.Need-add-i Inv-loop μ-loop
 add-i c = search needs
@@ -35,13 +40,21 @@ loop-less : tie.Need-loop-less Inv-loop μ-loop
 loop-less c = omega arith
 
 loop-again : tie.Need-loop-again Inv-loop μ-loop
-loop-again c = (omega (arith, c .before .before .loop .inv), omega arith, skips-more (c .before .before .loop .inv .2) (c .before .before .loop .inv .0) (omega (arith, c .before .before .before .pre)))
+loop-again c =
+    let loop = c .before .before .loop in
+    let pre = c .before .before .before .pre in
+    (omega (arith, loop .inv), omega arith, skips-more (loop .inv .2) (loop .inv .0) (omega (arith, pre)))
 
 same-length : tie.Need-same-length Inv-loop μ-loop
-same-length c = omega (arith, c .before .before .pre, c .before .loop .inv .2 .room)
+same-length c =
+    let loop = c .before .loop in
+    let pre = c .before .before .pre in
+    omega (arith, pre, loop .inv .2 .room)
 
 returns : tie.Need-returns Inv-loop μ-loop
-returns c = skips-all (c .before .loop .inv .2) (c .before .loop .inv .1) (omega arith)
+returns c =
+    let loop = c .before .loop in
+    skips-all (loop .inv .2) (loop .inv .1) (omega arith)
 
 pub skip-runs-spec : {M : Type 1} → statement M
 skip-runs-spec =

@@ -30,13 +30,22 @@ same-length-2 : tie.Need-same-length-2
 same-length-2 c = search needs
 
 returns : tie.Need-returns
-returns c = answered-tray (c .before .before .before .before .before .before .before .before .before .before .before .before .before .before .before .pre .0) (c .before .before .before .before .before .before .before .before .before .before .before .before .before .before .before .args .number) (c .before .before .before .before .before .before .before .before .before .before .before .before .before .before .before .args .frame .now) (c .before .before .before .before .before .before .before .before .if1 .taken) (c .before .before .before .before .keep-tray .ensures)
+returns c =
+    let back = c .before .before .before .before in
+    let keep-tray = back .keep-tray in
+    let back = back .before .before .before .before in
+    let if1 = back .if1 in
+    let args = back .before .before .before .before .before .before .before .args in
+    let buffers = back .before .before .before .before .before .before .before .pre .0 in
+    answered-tray buffers (args .number) (args .frame .now) (if1 .taken) (keep-tray .ensures)
 
 slice-reshare-prefix-keep-index : tie.Need-slice-reshare-prefix-keep-index
 slice-reshare-prefix-keep-index c = search needs
 
 slice-aggregate-keep-index : tie.Need-slice-aggregate-keep-index
-slice-aggregate-keep-index c = sym (length-take-le _ _ (omega (arith, c .before .before .before .before .before .before .before .before .before .before .pre .0)))
+slice-aggregate-keep-index c =
+    let buffers = c .before .before .before .before .before .before .before .before .before .before .pre .0 in
+    sym (length-take-le _ _ (omega (arith, buffers)))
 
 shared-slice-read-keep-index : tie.Need-shared-slice-read-keep-index
 shared-slice-read-keep-index c = search needs
@@ -54,7 +63,16 @@ same-length-5 : tie.Need-same-length-5
 same-length-5 c = search needs
 
 returns-2 : tie.Need-returns-2
-returns-2 c = answered-build (c .before .before .before .before .before .before .before .before .before .before .before .before .before .before .before .before .before .before .pre .0) (c .before .before .before .before .before .before .before .before .before .before .before .before .before .before .before .before .before .before .args .number) (c .before .before .before .before .before .before .before .before .before .before .before .before .before .before .before .before .before .before .args .frame .now) (c .before .before .before .before .before .before .before .before .before .before .if2 .taken) (c .before .before .before .before .before .before .before .before .before .if3 .taken) (c .before .before .before .before .keep-index .ensures)
+returns-2 c =
+    let back = c .before .before .before .before in
+    let keep-index = back .keep-index in
+    let back = back .before .before .before .before .before in
+    let if3 = back .if3 in
+    let if2 = back .before .if2 in
+    let back = back .before .before .before .before .before .before .before .before .before in
+    let args = back .args in
+    let buffers = back .pre .0 in
+    answered-build buffers (args .number) (args .frame .now) (if2 .taken) (if3 .taken) (keep-index .ensures)
 
 put-bad-requires : tie.Need-put-bad-requires
 put-bad-requires c κs = search needs
@@ -63,19 +81,35 @@ same-length-6 : tie.Need-same-length-6
 same-length-6 c = search needs
 
 returns-3 : tie.Need-returns-3
-returns-3 c = answered-bad (c .before .before .before .before .before .before .before .before .before .before .before .before .before .pre .0) (c .before .before .before .before .before .before .before .before .before .before .before .before .before .args .number) (heard-2-wrong (take (c .before .before .before .before .before .before .before .before .before .before .before .before .before .args .kept .tray) (c .before .before .before .before .before .before .before .before .before .before .before .before .before .args .tray .now)) (take (c .before .before .before .before .before .before .before .before .before .before .before .before .before .args .kept .index) (c .before .before .before .before .before .before .before .before .before .before .before .before .before .args .index .now)) (c .before .before .before .before .before .before .before .before .before .before .before .before .before .args .number) (c .before .before .before .before .before .before .before .before .before .before .before .before .before .args .frame .now) (c .before .before .before .before .before .if2 .taken) (c .before .before .before .before .if3 .left)) (c .before .before .put-bad .ensures)
+returns-3 c =
+    let back = c .before .before in
+    let put-bad = back .put-bad in
+    let if3 = back .before .before .if3 in
+    let if2 = back .before .before .before .if2 in
+    let back = back .before .before .before .before .before .before .before .before .before .before .before in
+    let args = back .args in
+    let buffers = back .pre .0 in
+    answered-bad buffers
+    (args .number)
+    (heard-2-wrong (take (args .kept .tray) (args .tray .now)) (take (args .kept .index) (args .index .now)) (args .number) (args .frame .now)
+    (if2 .taken) (if3 .left))
+    (put-bad .ensures)
 
 slice-reshare-prefix-answer-read : tie.Need-slice-reshare-prefix-answer-read
 slice-reshare-prefix-answer-read c = search needs
 
 slice-aggregate-answer-read : tie.Need-slice-aggregate-answer-read
-slice-aggregate-answer-read c = sym (length-take-le _ _ (omega (arith, c .before .before .before .before .before .before .before .before .before .pre .0)))
+slice-aggregate-answer-read c =
+    let buffers = c .before .before .before .before .before .before .before .before .before .pre .0 in
+    sym (length-take-le _ _ (omega (arith, buffers)))
 
 slice-reshare-prefix-answer-read-2 : tie.Need-slice-reshare-prefix-answer-read-2
 slice-reshare-prefix-answer-read-2 c = search needs
 
 slice-aggregate-answer-read-2 : tie.Need-slice-aggregate-answer-read-2
-slice-aggregate-answer-read-2 c = sym (length-take-le _ _ (omega (arith, c .before .before .before .before .before .before .before .before .before .before .pre .0)))
+slice-aggregate-answer-read-2 c =
+    let buffers = c .before .before .before .before .before .before .before .before .before .before .pre .0 in
+    sym (length-take-le _ _ (omega (arith, buffers)))
 
 answer-read-requires : tie.Need-answer-read-requires
 answer-read-requires c κs = search needs
@@ -93,7 +127,16 @@ same-length-10 : tie.Need-same-length-10
 same-length-10 c = search needs
 
 returns-4 : tie.Need-returns-4
-returns-4 c = answered-read (c .before .before .before .before .before .before .before .before .before .before .before .before .before .before .before .before .before .pre .0) (c .before .before .before .before .before .before .before .before .before .before .before .before .before .before .before .before .before .args .number) (c .before .before .before .before .before .before .before .before .before .before .before .before .before .before .before .before .before .args .frame .now) (c .before .before .before .before .before .before .before .before .before .before .if1 .left) (c .before .before .before .before .before .before .before .before .before .if2 .left) (c .before .before .before .before .answer-read .ensures)
+returns-4 c =
+    let back = c .before .before .before .before in
+    let answer-read = back .answer-read in
+    let back = back .before .before .before .before .before in
+    let if2 = back .if2 in
+    let if1 = back .before .if1 in
+    let back = back .before .before .before .before .before .before .before .before in
+    let args = back .args in
+    let buffers = back .pre .0 in
+    answered-read buffers (args .number) (args .frame .now) (if1 .left) (if2 .left) (answer-read .ensures)
 
 pub answer-frame-spec : {M : Type 1} → statement M
 answer-frame-spec =

@@ -11,16 +11,63 @@ formed-requires : tie.Need-formed-requires
 formed-requires c κs = search needs
 
 decode-requires : tie.Need-decode-requires
-decode-requires c κs = ((formed-known (c .before .before .before .before .before .before .before .before .before .args .line .now) (sym (c .before .before .formed .ensures) ∙ c .before .if1 .taken)) .digits, omega (arith, (formed-known (c .before .before .before .before .before .before .before .before .before .args .line .now) (sym (c .before .before .formed .ensures) ∙ c .before .if1 .taken)) .short, c .before .before .before .before .before .before .before .before .before .pre .1))
+decode-requires c κs =
+    let if1 = c .before .if1 in
+    let formed = c .before .before .formed in
+    let back = c .before .before .before .before .before .before .before .before .before in
+    let args = back .args in
+    let pre = back .pre in (
+      (formed-known (args .line .now) (sym (formed .ensures) ∙ if1 .taken)) .digits,
+      omega (arith, (formed-known (args .line .now) (sym (formed .ensures) ∙ if1 .taken)) .short, pre .1),
+    )
 
 slice-reshare-prefix-answer-frame : tie.Need-slice-reshare-prefix-answer-frame
-slice-reshare-prefix-answer-frame c = (decoded (c .before .before .before .before .before .before .before .before .before .before .before .before .args .line .now) (c .before .before .before .before .before .before .before .before .before .before .before .before .args .frame .now) (sym (c .before .before .before .before .before .formed .ensures) ∙ c .before .before .before .before .if1 .taken) (c .before .before .before .before .before .before .before .before .before .before .before .before .pre .1) (c .before .before .decode .ensures)) .fits
+slice-reshare-prefix-answer-frame c =
+    let back = c .before .before in
+    let decode = back .decode in
+    let if1 = back .before .before .if1 in
+    let formed = back .before .before .before .formed in
+    let back = back .before .before .before .before .before .before .before .before .before .before in
+    let args = back .args in
+    let pre = back .pre in
+    (decoded (args .line .now) (args .frame .now) (sym (formed .ensures) ∙ if1 .taken) (pre .1) (decode .ensures)) .fits
 
 slice-aggregate-answer-frame : tie.Need-slice-aggregate-answer-frame
-slice-aggregate-answer-frame c = (decoded (c .before .before .before .before .before .before .before .before .before .before .before .before .before .args .line .now) (c .before .before .before .before .before .before .before .before .before .before .before .before .before .args .frame .now) (sym (c .before .before .before .before .before .before .formed .ensures) ∙ c .before .before .before .before .before .if1 .taken) (c .before .before .before .before .before .before .before .before .before .before .before .before .before .pre .1) (c .before .before .before .decode .ensures)) .long
+slice-aggregate-answer-frame c =
+    let back = c .before .before .before in
+    let decode = back .decode in
+    let if1 = back .before .before .if1 in
+    let formed = back .before .before .before .formed in
+    let back = back .before .before .before .before .before .before .before .before .before .before in
+    let args = back .args in
+    let pre = back .pre in
+    (decoded (args .line .now) (args .frame .now) (sym (formed .ensures) ∙ if1 .taken) (pre .1) (decode .ensures)) .long
 
 answer-frame-requires : tie.Need-answer-frame-requires
-answer-frame-requires c κs = (c .before .before .before .before .before .before .before .before .before .before .before .before .before .before .before .before .before .pre .0, (omega (arith, (decoded (c .before .before .before .before .before .before .before .before .before .before .before .before .before .before .before .before .before .args .line .now) (c .before .before .before .before .before .before .before .before .before .before .before .before .before .before .before .before .before .args .frame .now) (sym (c .before .before .before .before .before .before .before .before .before .before .formed .ensures) ∙ c .before .before .before .before .before .before .before .before .before .if1 .taken) (c .before .before .before .before .before .before .before .before .before .before .before .before .before .before .before .before .before .pre .1) (c .before .before .before .before .before .before .before .decode .ensures)) .long, (decoded (c .before .before .before .before .before .before .before .before .before .before .before .before .before .before .before .before .before .args .line .now) (c .before .before .before .before .before .before .before .before .before .before .before .before .before .before .before .before .before .args .frame .now) (sym (c .before .before .before .before .before .before .before .before .before .before .formed .ensures) ∙ c .before .before .before .before .before .before .before .before .before .if1 .taken) (c .before .before .before .before .before .before .before .before .before .before .before .before .before .before .before .before .before .pre .1) (c .before .before .before .before .before .before .before .decode .ensures)) .some), omega (arith, (decoded (c .before .before .before .before .before .before .before .before .before .before .before .before .before .before .before .before .before .args .line .now) (c .before .before .before .before .before .before .before .before .before .before .before .before .before .before .before .before .before .args .frame .now) (sym (c .before .before .before .before .before .before .before .before .before .before .formed .ensures) ∙ c .before .before .before .before .before .before .before .before .before .if1 .taken) (c .before .before .before .before .before .before .before .before .before .before .before .before .before .before .before .before .before .pre .1) (c .before .before .before .before .before .before .before .decode .ensures)) .long, (decoded (c .before .before .before .before .before .before .before .before .before .before .before .before .before .before .before .before .before .args .line .now) (c .before .before .before .before .before .before .before .before .before .before .before .before .before .before .before .before .before .args .frame .now) (sym (c .before .before .before .before .before .before .before .before .before .before .formed .ensures) ∙ c .before .before .before .before .before .before .before .before .before .if1 .taken) (c .before .before .before .before .before .before .before .before .before .before .before .before .before .before .before .before .before .pre .1) (c .before .before .before .before .before .before .before .decode .ensures)) .short)))
+answer-frame-requires c κs =
+    let back = c .before .before .before .before .before .before .before in
+    let decode = back .decode in
+    let back = back .before .before in
+    let if1 = back .if1 in
+    let formed = back .before .formed in
+    let back = back .before .before .before .before .before .before .before .before in
+    let args = back .args in
+    let pre = back .pre in
+    let buffers = back .pre .0 in (
+      buffers,
+      (
+        omega (
+          arith,
+          (decoded (args .line .now) (args .frame .now) (sym (formed .ensures) ∙ if1 .taken) (pre .1) (decode .ensures)) .long,
+          (decoded (args .line .now) (args .frame .now) (sym (formed .ensures) ∙ if1 .taken) (pre .1) (decode .ensures)) .some,
+        ),
+        omega (
+          arith,
+          (decoded (args .line .now) (args .frame .now) (sym (formed .ensures) ∙ if1 .taken) (pre .1) (decode .ensures)) .long,
+          (decoded (args .line .now) (args .frame .now) (sym (formed .ensures) ∙ if1 .taken) (pre .1) (decode .ensures)) .short,
+        ),
+      ),
+    )
 
 same-length : tie.Need-same-length
 same-length c = search needs
@@ -38,7 +85,22 @@ same-length-5 : tie.Need-same-length-5
 same-length-5 c = search needs
 
 returns : tie.Need-returns
-returns c = answered-line _ _ (c .before .before .before .before .before .before .before .before .before .before .before .before .before .before .before .before .before .before .before .before .before .before .before .before .before .before .args .number) (c .before .before .before .before .before .before .before .before .before .before .before .before .before .before .before .before .before .before .before .before .before .before .before .before .before .before .args .line .now) (sym (c .before .before .before .before .before .before .before .before .before .before .before .before .before .before .before .before .before .before .before .formed .ensures) ∙ c .before .before .before .before .before .before .before .before .before .before .before .before .before .before .before .before .before .before .if1 .taken) ((decoded (c .before .before .before .before .before .before .before .before .before .before .before .before .before .before .before .before .before .before .before .before .before .before .before .before .before .before .args .line .now) (c .before .before .before .before .before .before .before .before .before .before .before .before .before .before .before .before .before .before .before .before .before .before .before .before .before .before .args .frame .now) (sym (c .before .before .before .before .before .before .before .before .before .before .before .before .before .before .before .before .before .before .before .formed .ensures) ∙ c .before .before .before .before .before .before .before .before .before .before .before .before .before .before .before .before .before .before .if1 .taken) (c .before .before .before .before .before .before .before .before .before .before .before .before .before .before .before .before .before .before .before .before .before .before .before .before .before .before .pre .1) (c .before .before .before .before .before .before .before .before .before .before .before .before .before .before .before .before .decode .ensures)) .is) (c .before .before .before .before .before .before .before .before .answer-frame .ensures)
+returns c =
+    let back = c .before .before .before .before .before .before .before .before in
+    let answer-frame = back .answer-frame in
+    let back = back .before .before .before .before .before .before .before .before in
+    let decode = back .decode in
+    let if1 = back .before .before .if1 in
+    let formed = back .before .before .before .formed in
+    let back = back .before .before .before .before .before .before .before .before .before .before in
+    let args = back .args in
+    let pre = back .pre in
+    answered-line _ _
+    (args .number)
+    (args .line .now)
+    (sym (formed .ensures) ∙ if1 .taken)
+    ((decoded (args .line .now) (args .frame .now) (sym (formed .ensures) ∙ if1 .taken) (pre .1) (decode .ensures)) .is)
+    (answer-frame .ensures)
 
 put-bad-requires : tie.Need-put-bad-requires
 put-bad-requires c κs = search needs
@@ -47,7 +109,19 @@ same-length-6 : tie.Need-same-length-6
 same-length-6 c = search needs
 
 returns-2 : tie.Need-returns-2
-returns-2 c = answered-bad (c .before .before .before .before .before .before .before .before .before .before .before .before .pre .0) (c .before .before .before .before .before .before .before .before .before .before .before .before .args .number) (turn-ignored (take (c .before .before .before .before .before .before .before .before .before .before .before .before .args .kept .tray) (c .before .before .before .before .before .before .before .before .before .before .before .before .args .tray .now)) (take (c .before .before .before .before .before .before .before .before .before .before .before .before .args .kept .index) (c .before .before .before .before .before .before .before .before .before .before .before .before .args .index .now)) (c .before .before .before .before .before .before .before .before .before .before .before .before .args .number) (c .before .before .before .before .before .before .before .before .before .before .before .before .args .line .now) (sym (c .before .before .before .before .before .formed .ensures) ∙ c .before .before .before .before .if1 .left)) (c .before .before .put-bad .ensures)
+returns-2 c =
+    let back = c .before .before in
+    let put-bad = back .put-bad in
+    let if1 = back .before .before .if1 in
+    let formed = back .before .before .before .formed in
+    let back = back .before .before .before .before .before .before .before .before .before .before in
+    let args = back .args in
+    let buffers = back .pre .0 in
+    answered-bad buffers
+    (args .number)
+    (turn-ignored (take (args .kept .tray) (args .tray .now)) (take (args .kept .index) (args .index .now)) (args .number) (args .line .now)
+    (sym (formed .ensures) ∙ if1 .left))
+    (put-bad .ensures)
 
 pub answer-line-spec : {M : Type 1} → statement M
 answer-line-spec =

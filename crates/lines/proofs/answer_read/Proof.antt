@@ -23,7 +23,13 @@ same-length : tie.Need-same-length
 same-length c = search needs
 
 returns : tie.Need-returns
-returns c = read-get (c .before .before .before .before .before .before .before .before .before .before .before .before .before .args .t .now) (c .before .before .before .before .before .before .before .before .before .before .before .before .before .args .x .now) (c .before .before .before .before .before .before .before .before .before .before .before .before .before .args .number) (c .before .before .before .before .before .before .before .before .before .before .before .before .before .args .frame .now) (c .before .before .before .before .before .before .if1 .taken) (c .before .before .before .before .before .if2 .taken) (c .before .before .look-up .ensures)
+returns c =
+    let look-up = c .before .before .look-up in
+    let back = c .before .before .before .before .before in
+    let if2 = back .if2 in
+    let if1 = back .before .if1 in
+    let args = back .before .before .before .before .before .before .before .before .args in
+    read-get (args .t .now) (args .x .now) (args .number) (args .frame .now) (if1 .taken) (if2 .taken) (look-up .ensures)
 
 put-bad-requires : tie.Need-put-bad-requires
 put-bad-requires c κs = search needs
@@ -32,7 +38,13 @@ same-length-2 : tie.Need-same-length-2
 same-length-2 c = search needs
 
 returns-2 : tie.Need-returns-2
-returns-2 c = read-wrong (c .before .before .before .before .before .before .before .before .before .before .before .before .args .t .now) (c .before .before .before .before .before .before .before .before .before .before .before .before .args .x .now) (c .before .before .before .before .before .before .before .before .before .before .before .before .args .number) (c .before .before .before .before .before .before .before .before .before .before .before .before .args .frame .now) (c .before .before .before .before .before .if1 .taken) (c .before .before .before .before .if2 .left) (c .before .before .put-bad .ensures)
+returns-2 c =
+    let put-bad = c .before .before .put-bad in
+    let back = c .before .before .before .before in
+    let if2 = back .if2 in
+    let if1 = back .before .if1 in
+    let args = back .before .before .before .before .before .before .before .before .args in
+    read-wrong (args .t .now) (args .x .now) (args .number) (args .frame .now) (if1 .taken) (if2 .left) (put-bad .ensures)
 
 sub-list : tie.Need-sub-list
 sub-list c = search needs
@@ -53,7 +65,12 @@ same-length-4 : tie.Need-same-length-4
 same-length-4 c = search needs
 
 returns-3 : tie.Need-returns-3
-returns-3 c = read-list (c .before .before .before .before .before .before .before .before .before .before .before .before .before .before .before .before .args .t .now) (c .before .before .before .before .before .before .before .before .before .before .before .before .before .before .before .before .args .x .now) (c .before .before .before .before .before .before .before .before .before .before .before .before .before .before .before .before .args .number) (c .before .before .before .before .before .before .before .before .before .before .before .before .before .before .before .before .args .frame .now) (c .before .before .before .before .before .before .before .before .if3 .taken) (c .before .before .before .before .list .ensures)
+returns-3 c =
+    let back = c .before .before .before .before in
+    let list = back .list in
+    let if3 = back .before .before .before .before .if3 in
+    let args = back .before .before .before .before .before .before .before .before .before .before .before .before .args in
+    read-list (args .t .now) (args .x .now) (args .number) (args .frame .now) (if3 .taken) (list .ensures)
 
 put-bad-requires-2 : tie.Need-put-bad-requires-2
 put-bad-requires-2 c κs = search needs
@@ -62,7 +79,13 @@ same-length-5 : tie.Need-same-length-5
 same-length-5 c = search needs
 
 returns-4 : tie.Need-returns-4
-returns-4 c = read-unknown (c .before .before .before .before .before .before .before .before .before .before .before .before .args .t .now) (c .before .before .before .before .before .before .before .before .before .before .before .before .args .x .now) (c .before .before .before .before .before .before .before .before .before .before .before .before .args .number) (c .before .before .before .before .before .before .before .before .before .before .before .before .args .frame .now) (c .before .before .before .before .before .if1 .left) (c .before .before .before .before .if3 .left) (c .before .before .put-bad2 .ensures)
+returns-4 c =
+    let put-bad2 = c .before .before .put-bad2 in
+    let back = c .before .before .before .before in
+    let if3 = back .if3 in
+    let if1 = back .before .if1 in
+    let args = back .before .before .before .before .before .before .before .before .args in
+    read-unknown (args .t .now) (args .x .now) (args .number) (args .frame .now) (if1 .left) (if3 .left) (put-bad2 .ensures)
 
 pub answer-read-spec : {M : Type 1} → statement M
 answer-read-spec =

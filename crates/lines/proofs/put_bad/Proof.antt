@@ -14,7 +14,11 @@ same-length : tie.Need-same-length
 same-length c = search needs
 
 returns : tie.Need-returns
-returns c = bad-line (c .before .before .before .before .before .before .args .number) (c .before .before .before .before .wide-32 .ensures) (c .before .before .put-short .ensures)
+returns c =
+    let put-short = c .before .before .put-short in
+    let wide-32 = c .before .before .before .before .wide-32 in
+    let args = c .before .before .before .before .before .before .args in
+    bad-line (args .number) (wide-32 .ensures) (put-short .ensures)
 
 pub put-bad-spec : {M : Type 1} → statement M
 put-bad-spec = tie.close (tie.spec wide-32-requires put-short-requires same-length returns)

@@ -20,14 +20,47 @@ enum-known-d : tie.Need-enum-known-d
 enum-known-d c = search needs
 
 page-framed-requires : tie.Need-page-framed-requires
-page-framed-requires c κs = (opened _ (c .before .before .before .before .before .before .tray-frame .ensures) (c .before .before .before .before .before .if1 .taken), laid _ _ (opened _ (c .before .before .before .before .before .before .tray-frame .ensures) (c .before .before .before .before .before .if1 .taken) .runs) (sym (c .before .before .d .given .1) ∙ c .before .before .before .before .index-frame .ensures))
+page-framed-requires c κs =
+    let d = c .before .before .d in
+    let back = c .before .before .before .before in
+    let index-frame = back .index-frame in
+    let if1 = back .before .if1 in
+    let tray-frame = back .before .before .tray-frame in (
+      opened _ (tray-frame .ensures) (if1 .taken),
+      laid _ _ (opened _ (tray-frame .ensures) (if1 .taken) .runs) (sym (d .given .1) ∙ index-frame .ensures),
+    )
 
 same-length : tie.Need-same-length
 same-length c = search needs
 
 returns : tie.Need-returns
 unfolding pageAnswer pageLeaves
-returns c = (frames-fit (refusedPage (c .before .before .before .before .before .before .before .before .before .before .before .before .before .args .from)) _ (c .before .before .before .before .before .before .before .before .before .tray-frame .ensures) (c .before .before .before .before .before .before .before .before .if1 .taken) _ (sym (c .before .before .before .before .before .d .given .1) ∙ c .before .before .before .before .before .before .before .index-frame .ensures) (c .before .before .page-framed .ensures .0), frames-fit (λ (r : Refusal). now (c .before .before .before .before .before .before .before .before .before .before .before .before .before .args .out)) _ (c .before .before .before .before .before .before .before .before .before .tray-frame .ensures) (c .before .before .before .before .before .before .before .before .if1 .taken) _ (sym (c .before .before .before .before .before .d .given .1) ∙ c .before .before .before .before .before .before .before .index-frame .ensures) (c .before .before .page-framed .ensures .1))
+returns c =
+    let back = c .before .before in
+    let page-framed = back .page-framed in
+    let back = back .before .before .before in
+    let d = back .d in
+    let index-frame = back .before .before .index-frame in
+    let if1 = back .before .before .before .if1 in
+    let tray-frame = back .before .before .before .before .tray-frame in
+    let args = back .before .before .before .before .before .before .before .before .args in (
+      frames-fit
+          (refusedPage (args .from))
+          _
+          (tray-frame .ensures)
+          (if1 .taken)
+          _
+          (sym (d .given .1) ∙ index-frame .ensures)
+          (page-framed .ensures .0),
+      frames-fit
+          (λ (r : Refusal). now (args .out))
+          _
+          (tray-frame .ensures)
+          (if1 .taken)
+          _
+          (sym (d .given .1) ∙ index-frame .ensures)
+          (page-framed .ensures .1),
+    )
 
 enum-told : tie.Need-enum-told
 enum-told c = search needs
@@ -37,14 +70,36 @@ page-refused-requires c κs = search needs
 
 returns-2 : tie.Need-returns-2
 unfolding pageAnswer pageLeaves
-returns-2 c = (frames-index (refusedPage (c .before .before .before .before .before .before .before .before .before .args .from)) _ (c .before .before .before .before .before .tray-frame .ensures) (c .before .before .before .before .if1 .taken) _ (sym (c .before .enum-told .given .1) ∙ c .before .before .before .index-frame .ensures) (c .page-refused .ensures), frames-index (λ (r : Refusal). now (c .before .before .before .before .before .before .before .before .before .args .out)) _ (c .before .before .before .before .before .tray-frame .ensures) (c .before .before .before .before .if1 .taken) _ (sym (c .before .enum-told .given .1) ∙ c .before .before .before .index-frame .ensures) refl)
+returns-2 c =
+    let enum-told = c .before .enum-told in
+    let back = c .before .before .before in
+    let index-frame = back .index-frame in
+    let if1 = back .before .if1 in
+    let tray-frame = back .before .before .tray-frame in
+    let args = back .before .before .before .before .before .before .args in (
+      frames-index
+          (refusedPage (args .from))
+          _
+          (tray-frame .ensures)
+          (if1 .taken)
+          _
+          (sym (enum-told .given .1) ∙ index-frame .ensures)
+          (c .page-refused .ensures),
+      frames-index (λ (r : Refusal). now (args .out)) _ (tray-frame .ensures) (if1 .taken) _ (sym (enum-told .given .1) ∙ index-frame .ensures) refl,
+    )
 
 page-refused-requires-2 : tie.Need-page-refused-requires-2
 page-refused-requires-2 c κs = search needs
 
 returns-3 : tie.Need-returns-3
 unfolding pageAnswer pageLeaves
-returns-3 c = (frames-tray (refusedPage (c .before .before .before .before .before .before .args .from)) _ (c .before .before .tray-frame .ensures) _ (c .before .if1 .left) (c .page-refused2 .ensures), frames-tray (λ (r : Refusal). now (c .before .before .before .before .before .before .args .out)) _ (c .before .before .tray-frame .ensures) _ (c .before .if1 .left) refl)
+returns-3 c =
+    let if1 = c .before .if1 in
+    let tray-frame = c .before .before .tray-frame in
+    let args = c .before .before .before .before .before .before .args in (
+      frames-tray (refusedPage (args .from)) _ (tray-frame .ensures) _ (if1 .left) (c .page-refused2 .ensures),
+      frames-tray (λ (r : Refusal). now (args .out)) _ (tray-frame .ensures) _ (if1 .left) refl,
+    )
 
 pub page-spec : {M : Type 1} → statement M
 page-spec =

@@ -21,7 +21,11 @@ place-numbers-requires c κs = search needs
 
 -- src/calls.rt:102:8
 belongs-requires : tie.Need-belongs-requires
-belongs-requires c κs = ((walking (c .before .before .before .before .before .before .before .before .before .pre .0) (c .before .before .before .before .before .before .before .before .before .pre .1)) .index, (walking (c .before .before .before .before .before .before .before .before .before .pre .0) (c .before .before .before .before .before .before .before .before .before .pre .1)) .few)
+belongs-requires c κs =
+    let back = c .before .before .before .before .before .before .before .before .before in
+    let opened = back .pre .0 in
+    let laid = back .pre .1 in
+    ((walking opened laid) .index, (walking opened laid) .few)
 
 -- src/calls.rt:106:42
 slice-aggregate-page-from : tie.Need-slice-aggregate-page-from
@@ -33,7 +37,30 @@ slice-aggregate-page-from-2 c = search needs
 
 -- src/calls.rt:106:17
 page-from-requires : tie.Need-page-from-requires
-page-from-requires c κs = ((walking (c .before .before .before .before .before .before .before .before .before .before .before .before .before .before .before .before .pre .0) (c .before .before .before .before .before .before .before .before .before .before .before .before .before .before .before .before .pre .1)), (c .before .before .before .before .before .before .before .before .before .before .before .before .before .before .before .before .pre .0 .at, (c .before .before .before .if2 .taken, omega (arith, belongs-low (walking (c .before .before .before .before .before .before .before .before .before .before .before .before .before .before .before .before .pre .0) (c .before .before .before .before .before .before .before .before .before .before .before .before .before .before .before .before .pre .1)) _ (told-spot _ _ (c .before .before .before .before .before .before .before .before .before .before .before .before .before .before .before .before .args .from) (c .before .before .before .before .before .before .before .before .before .place-numbers .ensures) (c .before .before .before .before .before .before .belongs .ensures)) (c .before .before .before .before .before .if1 .taken) (c .before .before .before .if2 .taken)))))
+page-from-requires c κs =
+    let back = c .before .before .before in
+    let if2 = back .if2 in
+    let back = back .before .before in
+    let if1 = back .if1 in
+    let belongs = back .before .belongs in
+    let back = back .before .before .before .before in
+    let place-numbers = back .place-numbers in
+    let back = back .before .before .before .before .before .before .before in
+    let args = back .args in
+    let opened = back .pre .0 in
+    let laid = back .pre .1 in (
+      (walking opened laid),
+      (
+        opened .at,
+        (
+          if2 .taken,
+          omega (
+            arith,
+            belongs-low (walking opened laid) _ (told-spot _ _ (args .from) (place-numbers .ensures) (belongs .ensures)) (if1 .taken) (if2 .taken),
+          ),
+        ),
+      ),
+    )
 
 -- src/calls.rt:104:13
 told-page-requires : tie.Need-told-page-requires
@@ -45,7 +72,34 @@ same-length c = search needs
 
 -- src/calls.rt:104:13
 returns : tie.Need-returns
-returns c = (told-is (walking (c .before .before .before .before .before .before .before .before .before .before .before .before .before .before .before .before .before .before .before .before .pre .0) (c .before .before .before .before .before .before .before .before .before .before .before .before .before .before .before .before .before .before .before .before .pre .1)) _ _ (told-spot _ _ (c .before .before .before .before .before .before .before .before .before .before .before .before .before .before .before .before .before .before .before .before .args .from) (c .before .before .before .before .before .before .before .before .before .before .before .before .before .place-numbers .ensures) (c .before .before .before .before .before .before .before .before .before .before .belongs .ensures)) (c .before .before .before .before .before .before .before .before .before .if1 .taken) _ _ (c .before .before .before .page-from .ensures) (c .told-page .ensures), told-left (walking (c .before .before .before .before .before .before .before .before .before .before .before .before .before .before .before .before .before .before .before .before .pre .0) (c .before .before .before .before .before .before .before .before .before .before .before .before .before .before .before .before .before .before .before .before .pre .1)) _ _ (told-spot _ _ (c .before .before .before .before .before .before .before .before .before .before .before .before .before .before .before .before .before .before .before .before .args .from) (c .before .before .before .before .before .before .before .before .before .before .before .before .before .place-numbers .ensures) (c .before .before .before .before .before .before .before .before .before .before .belongs .ensures)) (c .before .before .before .before .before .before .before .before .before .if1 .taken) _ _ (c .before .before .before .page-from .ensures))
+returns c =
+    let back = c .before .before .before in
+    let page-from = back .page-from in
+    let back = back .before .before .before .before .before .before in
+    let if1 = back .if1 in
+    let belongs = back .before .belongs in
+    let back = back .before .before .before .before in
+    let place-numbers = back .place-numbers in
+    let back = back .before .before .before .before .before .before .before in
+    let args = back .args in
+    let opened = back .pre .0 in
+    let laid = back .pre .1 in (
+      told-is
+          (walking opened laid)
+          _ _
+          (told-spot _ _ (args .from) (place-numbers .ensures) (belongs .ensures))
+          (if1 .taken)
+          _ _
+          (page-from .ensures)
+          (c .told-page .ensures),
+      told-left
+          (walking opened laid)
+          _ _
+          (told-spot _ _ (args .from) (place-numbers .ensures) (belongs .ensures))
+          (if1 .taken)
+          _ _
+          (page-from .ensures),
+    )
 
 -- src/calls.rt:110:9
 page-ends-requires : tie.Need-page-ends-requires
@@ -53,7 +107,26 @@ page-ends-requires c κs = search needs
 
 -- src/calls.rt:110:9
 returns-2 : tie.Need-returns-2
-returns-2 c = (page-ends (walking (c .before .before .before .before .before .before .before .before .before .before .before .before .before .before .pre .0) (c .before .before .before .before .before .before .before .before .before .before .before .before .before .before .pre .1)) _ _ (told-spot _ _ (c .before .before .before .before .before .before .before .before .before .before .before .before .before .before .args .from) (c .before .before .before .before .before .before .before .place-numbers .ensures) (c .before .before .before .before .belongs .ensures)) (c .before .before .before .if1 .taken) (c .before .if2 .left) (c .page-ends .ensures), end-left (walking (c .before .before .before .before .before .before .before .before .before .before .before .before .before .before .pre .0) (c .before .before .before .before .before .before .before .before .before .before .before .before .before .before .pre .1)) _ _ (told-spot _ _ (c .before .before .before .before .before .before .before .before .before .before .before .before .before .before .args .from) (c .before .before .before .before .before .before .before .place-numbers .ensures) (c .before .before .before .before .belongs .ensures)) (c .before .before .before .if1 .taken) (c .before .if2 .left))
+returns-2 c =
+    let if2 = c .before .if2 in
+    let back = c .before .before .before in
+    let if1 = back .if1 in
+    let belongs = back .before .belongs in
+    let back = back .before .before .before .before in
+    let place-numbers = back .place-numbers in
+    let back = back .before .before .before .before .before .before .before in
+    let args = back .args in
+    let opened = back .pre .0 in
+    let laid = back .pre .1 in (
+      page-ends
+          (walking opened laid)
+          _ _
+          (told-spot _ _ (args .from) (place-numbers .ensures) (belongs .ensures))
+          (if1 .taken)
+          (if2 .left)
+          (c .page-ends .ensures),
+      end-left (walking opened laid) _ _ (told-spot _ _ (args .from) (place-numbers .ensures) (belongs .ensures)) (if1 .taken) (if2 .left),
+    )
 
 -- src/calls.rt:112:43
 cast-t26 : tie.Need-cast-t26
@@ -65,7 +138,24 @@ page-refused-requires c κs = search needs
 
 -- src/calls.rt:81:1
 returns-3 : tie.Need-returns-3
-returns-3 c = (page-off (walking (c .before .before .before .before .before .before .before .before .before .before .before .before .before .pre .0) (c .before .before .before .before .before .before .before .before .before .before .before .before .before .pre .1)) _ _ (told-spot _ _ (c .before .before .before .before .before .before .before .before .before .before .before .before .before .args .from) (c .before .before .before .before .before .before .place-numbers .ensures) (c .before .before .before .belongs .ensures)) (c .before .before .if1 .left) (c .page-refused .ensures), off-left (walking (c .before .before .before .before .before .before .before .before .before .before .before .before .before .pre .0) (c .before .before .before .before .before .before .before .before .before .before .before .before .before .pre .1)) _ _ (told-spot _ _ (c .before .before .before .before .before .before .before .before .before .before .before .before .before .args .from) (c .before .before .before .before .before .before .place-numbers .ensures) (c .before .before .before .belongs .ensures)) (c .before .before .if1 .left))
+returns-3 c =
+    let back = c .before .before in
+    let if1 = back .if1 in
+    let belongs = back .before .belongs in
+    let back = back .before .before .before .before in
+    let place-numbers = back .place-numbers in
+    let back = back .before .before .before .before .before .before .before in
+    let args = back .args in
+    let opened = back .pre .0 in
+    let laid = back .pre .1 in (
+      page-off
+          (walking opened laid)
+          _ _
+          (told-spot _ _ (args .from) (place-numbers .ensures) (belongs .ensures))
+          (if1 .left)
+          (c .page-refused .ensures),
+      off-left (walking opened laid) _ _ (told-spot _ _ (args .from) (place-numbers .ensures) (belongs .ensures)) (if1 .left),
+    )
 
 pub page-framed-spec : {M : Type 1} → statement M
 page-framed-spec =

@@ -23,15 +23,24 @@ page-refused-requires c κs = search needs
 
 returns : tie.Need-returns
 unfolding toldAs
-returns c = ap (λ (a : Stop). toldAs (c .before .before .before .args .n) (c .before .before .before .args .from) a (c .before .before .before .args .p .count) (c .before .before .before .args .p .cursor)) (sym (c .before .enum-told .given .1))
+returns c =
+    let enum-told = c .before .enum-told in
+    let args = c .before .before .before .args in
+    ap (λ (a : Stop). toldAs (args .n) (args .from) a (args .p .count) (args .p .cursor)) (sym (enum-told .given .1))
 
 returns-2 : tie.Need-returns-2
 unfolding toldAs
-returns-2 c = c .page-ends .ensures ∙ ap (λ (a : Stop). toldAs (c .before .before .before .args .n) (c .before .before .before .args .from) a (c .before .before .before .args .p .count) (c .before .before .before .args .p .cursor)) (sym (c .before .enum-told2 .given .1))
+returns-2 c =
+    let enum-told2 = c .before .enum-told2 in
+    let args = c .before .before .before .args in
+    c .page-ends .ensures ∙ ap (λ (a : Stop). toldAs (args .n) (args .from) a (args .p .count) (args .p .cursor)) (sym (enum-told2 .given .1))
 
 returns-3 : tie.Need-returns-3
 unfolding toldAs
-returns-3 c = c .page-refused .ensures ∙ ap (λ (a : Stop). toldAs (c .before .before .before .before .args .n) (c .before .before .before .before .args .from) a (c .before .before .before .before .args .p .count) (c .before .before .before .before .args .p .cursor)) (sym (c .before .before .stop .given .1))
+returns-3 c =
+    let stop = c .before .before .stop in
+    let args = c .before .before .before .before .args in
+    c .page-refused .ensures ∙ ap (λ (a : Stop). toldAs (args .n) (args .from) a (args .p .count) (args .p .cursor)) (sym (stop .given .1))
 
 pub told-page-spec : {M : Type 1} → statement M
 told-page-spec =

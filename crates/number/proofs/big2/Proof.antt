@@ -14,8 +14,9 @@ wide16-requires c κs = search needs
 
 mul-result : tie.Need-mul-result
 mul-result c =
-    let at-start = c .before .before in
-    let near = four (at-start .before .args .s .now) (at-start .before .args .at) (at-start .shared-slice-known .given) in
+    let shared-slice-known = c .before .before .shared-slice-known in
+    let args = c .before .before .before .args in
+    let near = four (args .s .now) (args .at) (shared-slice-known .given) in
     omega arith
 
 add-wide16 : tie.Need-add-wide16
@@ -29,15 +30,17 @@ wide16-requires-2 c κs = search needs
 
 add-result : tie.Need-add-result
 add-result c =
-    let at-start = c .before .before .before .before in
-    let near = four (at-start .before .args .s .now) (at-start .before .args .at) (at-start .shared-slice-known .given) in
+    let shared-slice-known = c .before .before .before .before .shared-slice-known in
+    let args = c .before .before .before .before .before .args in
+    let near = four (args .s .now) (args .at) (shared-slice-known .given) in
     omega arith
 
 returns : tie.Need-returns
 unfolding be
 returns c =
-    let at-start = c .before .before .before .before in
-    let near = four (at-start .before .args .s .now) (at-start .before .args .at) (at-start .shared-slice-known .given) in
+    let shared-slice-known = c .before .before .before .before .shared-slice-known in
+    let args = c .before .before .before .before .before .args in
+    let near = four (args .s .now) (args .at) (shared-slice-known .given) in
     omega arith
 
 pub big2-spec : {M : Type 1} → statement M

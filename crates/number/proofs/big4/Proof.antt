@@ -14,8 +14,9 @@ wide32-requires c κs = search needs
 
 mul-result : tie.Need-mul-result
 mul-result c =
-    let at-start = c .before .before in
-    let near = four (at-start .before .args .s .now) (at-start .before .args .at) (at-start .shared-slice-known .given) in
+    let shared-slice-known = c .before .before .shared-slice-known in
+    let args = c .before .before .before .args in
+    let near = four (args .s .now) (args .at) (shared-slice-known .given) in
     omega arith
 
 add-wide32 : tie.Need-add-wide32
@@ -29,14 +30,16 @@ wide32-requires-2 c κs = search needs
 
 add-result : tie.Need-add-result
 add-result c =
-    let at-start = c .before .before .before .before in
-    let near = four (at-start .before .args .s .now) (at-start .before .args .at) (at-start .shared-slice-known .given) in
+    let shared-slice-known = c .before .before .before .before .shared-slice-known in
+    let args = c .before .before .before .before .before .args in
+    let near = four (args .s .now) (args .at) (shared-slice-known .given) in
     omega arith
 
 mul-result-2 : tie.Need-mul-result-2
 mul-result-2 c =
-    let at-start = c .before .before .before .before in
-    let near = four (at-start .before .args .s .now) (at-start .before .args .at) (at-start .shared-slice-known .given) in
+    let shared-slice-known = c .before .before .before .before .shared-slice-known in
+    let args = c .before .before .before .before .before .args in
+    let near = four (args .s .now) (args .at) (shared-slice-known .given) in
     omega arith
 
 add-wide32-2 : tie.Need-add-wide32-2
@@ -50,14 +53,16 @@ wide32-requires-3 c κs = search needs
 
 add-result-2 : tie.Need-add-result-2
 add-result-2 c =
-    let at-start = c .before .before .before .before .before .before in
-    let near = four (at-start .before .args .s .now) (at-start .before .args .at) (at-start .shared-slice-known .given) in
+    let shared-slice-known = c .before .before .before .before .before .before .shared-slice-known in
+    let args = c .before .before .before .before .before .before .before .args in
+    let near = four (args .s .now) (args .at) (shared-slice-known .given) in
     omega arith
 
 mul-result-3 : tie.Need-mul-result-3
 mul-result-3 c =
-    let at-start = c .before .before .before .before .before .before in
-    let near = four (at-start .before .args .s .now) (at-start .before .args .at) (at-start .shared-slice-known .given) in
+    let shared-slice-known = c .before .before .before .before .before .before .shared-slice-known in
+    let args = c .before .before .before .before .before .before .before .args in
+    let near = four (args .s .now) (args .at) (shared-slice-known .given) in
     omega arith
 
 add-wide32-3 : tie.Need-add-wide32-3
@@ -71,15 +76,19 @@ wide32-requires-4 c κs = search needs
 
 add-result-3 : tie.Need-add-result-3
 add-result-3 c =
-    let at-start = c .before .before .before .before .before .before .before .before in
-    let near = four (at-start .before .args .s .now) (at-start .before .args .at) (at-start .shared-slice-known .given) in
+    let back = c .before .before .before .before .before .before .before .before in
+    let shared-slice-known = back .shared-slice-known in
+    let args = back .before .args in
+    let near = four (args .s .now) (args .at) (shared-slice-known .given) in
     omega arith
 
 returns : tie.Need-returns
 unfolding be
 returns c =
-    let at-start = c .before .before .before .before .before .before .before .before in
-    let near = four (at-start .before .args .s .now) (at-start .before .args .at) (at-start .shared-slice-known .given) in
+    let back = c .before .before .before .before .before .before .before .before in
+    let shared-slice-known = back .shared-slice-known in
+    let args = back .before .args in
+    let near = four (args .s .now) (args .at) (shared-slice-known .given) in
     omega arith
 
 pub big4-spec : {M : Type 1} → statement M

@@ -26,10 +26,10 @@ same-length c = search needs
 
 returns : tie.Need-returns
 returns c =
-    let at-second = c .before .before in
-    let at-first = at-second .before .before .before .before in
-    let args = at-first .before .before .before .args in
-    at-second .put42 .ensures ∙ rw (at-first .put4 .ensures) (put-halves 4 4 (args .v) (args .out .now) (args .at) (omega arith))
+    let put42 = c .before .before .put42 in
+    let put4 = c .before .before .before .before .before .before .put4 in
+    let args = c .before .before .before .before .before .before .before .before .before .args in
+    put42 .ensures ∙ rw (put4 .ensures) (put-halves 4 4 (args .v) (args .out .now) (args .at) (omega arith))
 
 pub put8-spec : {M : Type 1} → statement M
 put8-spec =

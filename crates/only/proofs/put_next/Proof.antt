@@ -15,37 +15,77 @@ use Rattle.tray.proofs.run.key_at.Reads as key-at-reads
 use Rattle.tray.proofs.run.kind_at.Reads as kind-at-reads
 
 shared-slice-read-a : tie.Need-shared-slice-read-a
-shared-slice-read-a c = omega (arith, c .before .before .before .before .before .before .pre .0 .at, c .before .before .before .before .before .before .pre .1)
+shared-slice-read-a c =
+    let pre = c .before .before .before .before .before .before .pre in
+    let reading = c .before .before .before .before .before .before .pre .0 in
+    omega (arith, reading .at, pre .1)
 
 shared-slice-read-e : tie.Need-shared-slice-read-e
-shared-slice-read-e c = omega (arith, c .before .before .before .before .before .before .before .pre .0 .at, c .before .before .before .before .before .before .before .pre .1)
+shared-slice-read-e c =
+    let pre = c .before .before .before .before .before .before .before .pre in
+    let reading = c .before .before .before .before .before .before .before .pre .0 in
+    omega (arith, reading .at, pre .1)
 
 slice-read-p : tie.Need-slice-read-p
-slice-read-p c = omega (arith, c .before .before .before .before .before .before .before .before .pre .0)
+slice-read-p c =
+    let reading = c .before .before .before .before .before .before .before .before .pre .0 in
+    omega (arith, reading)
 
 sub-key-at : tie.Need-sub-key-at
-sub-key-at c = only-cut (c .before .before .before .before .before .before .before .before .pre .0) (c .before .before .before .before .before .before .before .before .pre .1 .0) .start
+sub-key-at c =
+    let back = c .before .before .before .before .before .before .before .before in
+    let pre = back .pre in
+    let reading = back .pre .0 in
+    only-cut reading (pre .1 .0) .start
 
 part-key-at-start : tie.Need-part-key-at-start
-part-key-at-start c = only-cut (c .before .before .before .before .before .before .before .before .pre .0) (c .before .before .before .before .before .before .before .before .pre .1 .0) .start
+part-key-at-start c =
+    let back = c .before .before .before .before .before .before .before .before in
+    let pre = back .pre in
+    let reading = back .pre .0 in
+    only-cut reading (pre .1 .0) .start
 
 part-key-at-end : tie.Need-part-key-at-end
-part-key-at-end c = only-cut (c .before .before .before .before .before .before .before .before .pre .0) (c .before .before .before .before .before .before .before .before .pre .1 .0) .end
+part-key-at-end c =
+    let back = c .before .before .before .before .before .before .before .before in
+    let pre = back .pre in
+    let reading = back .pre .0 in
+    only-cut reading (pre .1 .0) .end
 
 key-at-requires : tie.Need-key-at-requires
-key-at-requires c κs = let k = only-cut (c .before .before .before .before .before .before .before .before .before .pre .0) (c .before .before .before .before .before .before .before .before .before .pre .1 .0) in omega (arith, k .whole, k .records, c .before .before .before .before .before .before .before .before .before .pre .1)
+key-at-requires c κs =
+    let back = c .before .before .before .before .before .before .before .before .before in
+    let pre = back .pre in
+    let reading = back .pre .0 in
+    let k = only-cut reading (pre .1 .0) in omega (arith, k .whole, k .records, pre .1)
 
 sub-kind-at : tie.Need-sub-kind-at
-sub-kind-at c = only-cut (c .before .before .before .before .before .before .before .before .before .before .pre .0) (c .before .before .before .before .before .before .before .before .before .before .pre .1 .0) .start
+sub-kind-at c =
+    let back = c .before .before .before .before .before .before .before .before .before .before in
+    let pre = back .pre in
+    let reading = back .pre .0 in
+    only-cut reading (pre .1 .0) .start
 
 part-kind-at-start : tie.Need-part-kind-at-start
-part-kind-at-start c = only-cut (c .before .before .before .before .before .before .before .before .before .before .pre .0) (c .before .before .before .before .before .before .before .before .before .before .pre .1 .0) .start
+part-kind-at-start c =
+    let back = c .before .before .before .before .before .before .before .before .before .before in
+    let pre = back .pre in
+    let reading = back .pre .0 in
+    only-cut reading (pre .1 .0) .start
 
 part-kind-at-end : tie.Need-part-kind-at-end
-part-kind-at-end c = only-cut (c .before .before .before .before .before .before .before .before .before .before .pre .0) (c .before .before .before .before .before .before .before .before .before .before .pre .1 .0) .end
+part-kind-at-end c =
+    let back = c .before .before .before .before .before .before .before .before .before .before in
+    let pre = back .pre in
+    let reading = back .pre .0 in
+    only-cut reading (pre .1 .0) .end
 
 kind-at-requires : tie.Need-kind-at-requires
-kind-at-requires c κs = let k = only-cut (c .before .before .before .before .before .before .before .before .before .before .before .pre .0) (c .before .before .before .before .before .before .before .before .before .before .before .pre .1 .0) in omega (arith, k .whole, k .records, c .before .before .before .before .before .before .before .before .before .before .before .pre .1)
+kind-at-requires c κs =
+    let back = c .before .before .before .before .before .before .before .before .before .before .before in
+    let pre = back .pre in
+    let reading = back .pre .0 in
+    let k = only-cut reading (pre .1 .0) in omega (arith, k .whole, k .records, pre .1)
 
 old-mark-requires : tie.Need-old-mark-requires
 old-mark-requires c κs = search needs
@@ -54,16 +94,25 @@ gone-mark-requires : tie.Need-gone-mark-requires
 gone-mark-requires c κs = search needs
 
 add-seg : tie.Need-add-seg
-add-seg c = omega (arith, old-low _ _ (c .before .old-mark .ensures), mark-low (c .before .before .kind-at .result) (c .gone-mark .ensures))
+add-seg c =
+    let old-mark = c .before .old-mark in
+    let kind-at = c .before .before .kind-at in
+    omega (arith, old-low _ _ (old-mark .ensures), mark-low (kind-at .result) (c .gone-mark .ensures))
 
 slice-write-seg : tie.Need-slice-write-seg
 slice-write-seg c = search needs
 
 add-places : tie.Need-add-places
-add-places c = let k = only-cut (c .before .before .before .before .before .before .before .before .before .before .before .before .before .before .pre .0) (c .before .before .before .before .before .before .before .before .before .before .before .before .before .before .pre .1 .0) in omega (arith, k .few, k .records, c .before .before .before .before .before .before .before .before .before .before .before .before .before .before .pre .1)
+add-places c =
+    let back = c .before .before .before .before .before .before .before .before .before .before .before .before .before .before in
+    let pre = back .pre in
+    let reading = back .pre .0 in
+    let k = only-cut reading (pre .1 .0) in omega (arith, k .few, k .records, pre .1)
 
 slice-write-places : tie.Need-slice-write-places
-slice-write-places c = omega (arith, c .before .before .before .before .before .before .before .before .before .before .before .before .before .before .pre .0)
+slice-write-places c =
+    let reading = c .before .before .before .before .before .before .before .before .before .before .before .before .before .before .pre .0 in
+    omega (arith, reading)
 
 same-length : tie.Need-same-length
 same-length c = search needs
@@ -72,7 +121,18 @@ same-length-2 : tie.Need-same-length-2
 same-length-2 c = search needs
 
 returns : tie.Need-returns
-returns c = let k = only-cut (c .before .before .before .before .before .before .before .before .before .before .before .before .before .before .pre .0) (c .before .before .before .before .before .before .before .before .before .before .before .before .before .before .pre .1 .0) in (only-key _ _ (k .bytes) refl (c .before .before .before .before .key-at .ensures), (only-spelled _ _ _ _ _ _ (k .bytes) (c .before .before .kind-at .ensures) (c .before .old-mark .ensures) (c .gone-mark .ensures), raised _ refl))
+returns c =
+    let old-mark = c .before .old-mark in
+    let kind-at = c .before .before .kind-at in
+    let back = c .before .before .before .before in
+    let key-at = back .key-at in
+    let back = back .before .before .before .before .before .before .before .before .before .before in
+    let pre = back .pre in
+    let reading = back .pre .0 in
+    let k = only-cut reading (pre .1 .0) in (
+      only-key _ _ (k .bytes) refl (key-at .ensures),
+      (only-spelled _ _ _ _ _ _ (k .bytes) (kind-at .ensures) (old-mark .ensures) (c .gone-mark .ensures), raised _ refl),
+    )
 
 pub put-next-spec : {M : Type 1} → statement M
 put-next-spec =

@@ -21,31 +21,78 @@ put-run-requires : tie.Need-put-run-requires
 put-run-requires c κs = search needs
 
 shared-slice-read-a : tie.Need-shared-slice-read-a
-shared-slice-read-a c = omega (arith, c .before .before .before .before .before .before .before .before .before .before .before .before .before .before .pre .0 .at, c .before .before .before .before .before .before .before .before .before .before .before .before .before .before .pre .1)
+shared-slice-read-a c =
+    let back = c .before .before .before .before .before .before .before .before .before .before .before .before .before .before in
+    let pre = back .pre in
+    let reading = back .pre .0 in
+    omega (arith, reading .at, pre .1)
 
 shared-slice-read-e : tie.Need-shared-slice-read-e
-shared-slice-read-e c = omega (arith, c .before .before .before .before .before .before .before .before .before .before .before .before .before .before .before .pre .0 .at, c .before .before .before .before .before .before .before .before .before .before .before .before .before .before .before .pre .1)
+shared-slice-read-e c =
+    let back = c .before .before .before .before .before .before .before .before .before .before .before .before .before .before .before in
+    let pre = back .pre in
+    let reading = back .pre .0 in
+    omega (arith, reading .at, pre .1)
 
 slice-read-p : tie.Need-slice-read-p
-slice-read-p c = omega (arith, c .before .before .before .before .before .before .before .before .before .before .before .before .before .before .before .before .pre .0, c .before .before .before .before .before .before .before .put-run .kept)
+slice-read-p c =
+    let put-run = c .before .before .before .before .before .before .before .put-run in
+    let reading =
+    c .before .before .before .before .before .before .before .before .before .before .before .before .before .before .before .before .pre .0 in
+    omega (arith, reading, put-run .kept)
 
 shared-slice-read-if1 : tie.Need-shared-slice-read-if1
-shared-slice-read-if1 c = omega (arith, c .before .before .before .before .before .before .before .before .before .before .before .before .before .before .before .before .before .pre .0)
+shared-slice-read-if1 c =
+    let reading =
+    c .before .before .before .before .before .before .before .before .before .before .before .before .before .before .before .before .before .pre .0
+    in
+    omega (arith, reading)
 
 sub-key-at : tie.Need-sub-key-at
-sub-key-at c = only-cut (c .before .before .before .before .before .before .before .before .before .before .before .before .before .before .before .before .before .before .pre .0) (c .before .before .before .before .before .before .before .before .before .before .before .before .before .before .before .before .before .before .pre .1 .0) .start
+sub-key-at c =
+    let back =
+    c .before .before .before .before .before .before .before .before .before .before .before .before .before .before .before .before .before .before
+    in
+    let pre = back .pre in
+    let reading = back .pre .0 in
+    only-cut reading (pre .1 .0) .start
 
 part-key-at-start : tie.Need-part-key-at-start
-part-key-at-start c = only-cut (c .before .before .before .before .before .before .before .before .before .before .before .before .before .before .before .before .before .before .pre .0) (c .before .before .before .before .before .before .before .before .before .before .before .before .before .before .before .before .before .before .pre .1 .0) .start
+part-key-at-start c =
+    let back =
+    c .before .before .before .before .before .before .before .before .before .before .before .before .before .before .before .before .before .before
+    in
+    let pre = back .pre in
+    let reading = back .pre .0 in
+    only-cut reading (pre .1 .0) .start
 
 part-key-at-end : tie.Need-part-key-at-end
-part-key-at-end c = only-cut (c .before .before .before .before .before .before .before .before .before .before .before .before .before .before .before .before .before .before .pre .0) (c .before .before .before .before .before .before .before .before .before .before .before .before .before .before .before .before .before .before .pre .1 .0) .end
+part-key-at-end c =
+    let back =
+    c .before .before .before .before .before .before .before .before .before .before .before .before .before .before .before .before .before .before
+    in
+    let pre = back .pre in
+    let reading = back .pre .0 in
+    only-cut reading (pre .1 .0) .end
 
 key-at-requires : tie.Need-key-at-requires
-key-at-requires c κs = let k = only-cut (c .before .before .before .before .before .before .before .before .before .before .before .before .before .before .before .before .before .before .before .pre .0) (c .before .before .before .before .before .before .before .before .before .before .before .before .before .before .before .before .before .before .before .pre .1 .0) in omega (arith, k .whole, c .before .if1 .taken)
+key-at-requires c κs =
+    let if1 = c .before .if1 in
+    let back =
+    c .before .before .before .before .before .before .before .before .before .before .before .before .before .before .before .before .before .before
+    .before in
+    let pre = back .pre in
+    let reading = back .pre .0 in
+    let k = only-cut reading (pre .1 .0) in omega (arith, k .whole, if1 .taken)
 
 cut-back-requires : tie.Need-cut-back-requires
-cut-back-requires c κs = (steps-select (omega arith) (omega (arith, c .before .before .before .before .before .before .before .before .before .before .before .before .before .before .before .before .before .before .before .before .before .before .before .before .pre .1)) (c .before .before .before .before .before .before .before .before .before .before .before .before .before .before .before .put-run .ensures .steps), omega (arith, c .before .before .before .before .before .before .before .before .before .before .before .before .before .before .before .before .before .before .before .before .before .before .before .before .pre .0, c .before .before .before .before .before .before .before .before .before .before .before .before .before .before .before .put-run .kept))
+cut-back-requires c κs =
+    let back = c .before .before .before .before .before .before .before .before .before .before .before .before .before .before .before in
+    let put-run = back .put-run in
+    let back = back .before .before .before .before .before .before .before .before .before in
+    let pre = back .pre in
+    let reading = back .pre .0 in
+    (steps-select (omega arith) (omega (arith, pre .1)) (put-run .ensures .steps), omega (arith, reading, put-run .kept))
 
 same-length : tie.Need-same-length
 same-length c = search needs
@@ -54,7 +101,30 @@ same-length-2 : tie.Need-same-length-2
 same-length-2 c = search needs
 
 returns : tie.Need-returns
-returns c = (fills-cut (c .before .before .before .before .before .before .before .before .before .before .before .before .before .before .before .before .before .before .before .before .other-key .ensures) (c .before .before .before .before .before .before .before .before .before .before .before .before .before .before .before .before .before .before .put-run .ensures) (next-only _ _ (omega (arith, c .before .before .before .before .before .before .before .before .before .if1 .taken, only-cut (c .before .before .before .before .before .before .before .before .before .before .before .before .before .before .before .before .before .before .before .before .before .before .before .before .before .before .before .pre .0) (c .before .before .before .before .before .before .before .before .before .before .before .before .before .before .before .before .before .before .before .before .before .before .before .before .before .before .before .pre .1 .0) .records)) (only-key _ _ (only-cut (c .before .before .before .before .before .before .before .before .before .before .before .before .before .before .before .before .before .before .before .before .before .before .before .before .before .before .before .pre .0) (c .before .before .before .before .before .before .before .before .before .before .before .before .before .before .before .before .before .before .before .before .before .before .before .before .before .before .before .pre .1 .0) .bytes) refl (c .before .before .before .before .before .before .before .key-at .ensures))) (c .before .before .before .before .before .if2 .taken) (c .before .before .cut-back .ensures .0), (c .before .before .cut-back .ensures .1 .0, omega (arith, c .before .before .cut-back .ensures .1, c .before .before .before .before .before .before .before .before .before .before .before .before .before .before .before .before .before .before .put-run .ensures .inside)))
+returns c =
+    let back = c .before .before in
+    let cut-back = back .cut-back in
+    let back = back .before .before .before in
+    let if2 = back .if2 in
+    let back = back .before .before in
+    let key-at = back .key-at in
+    let back = back .before .before in
+    let if1 = back .if1 in
+    let back = back .before .before .before .before .before .before .before .before .before in
+    let put-run = back .put-run in
+    let other-key = back .before .before .other-key in
+    let back = back .before .before .before .before .before .before .before .before .before in
+    let pre = back .pre in
+    let reading = back .pre .0 in (
+      fills-cut
+          (other-key .ensures)
+          (put-run .ensures)
+          (next-only _ _ (omega (arith, if1 .taken, only-cut reading (pre .1 .0) .records))
+          (only-key _ _ (only-cut reading (pre .1 .0) .bytes) refl (key-at .ensures)))
+          (if2 .taken)
+          (cut-back .ensures .0),
+      (cut-back .ensures .1 .0, omega (arith, cut-back .ensures .1, put-run .ensures .inside)),
+    )
 
 same-length-3 : tie.Need-same-length-3
 same-length-3 c = search needs
@@ -63,7 +133,25 @@ same-length-4 : tie.Need-same-length-4
 same-length-4 c = search needs
 
 returns-2 : tie.Need-returns-2
-returns-2 c = (fills-other (c .before .before .before .before .before .before .before .before .before .before .before .before .before .before .before .other-key .ensures) (c .before .before .before .before .before .before .before .before .before .before .before .before .before .put-run .ensures) (next-only _ _ (omega (arith, c .before .before .before .before .if1 .taken, only-cut (c .before .before .before .before .before .before .before .before .before .before .before .before .before .before .before .before .before .before .before .before .before .before .pre .0) (c .before .before .before .before .before .before .before .before .before .before .before .before .before .before .before .before .before .before .before .before .before .before .pre .1 .0) .records)) (only-key _ _ (only-cut (c .before .before .before .before .before .before .before .before .before .before .before .before .before .before .before .before .before .before .before .before .before .before .pre .0) (c .before .before .before .before .before .before .before .before .before .before .before .before .before .before .before .before .before .before .before .before .before .before .pre .1 .0) .bytes) refl (c .before .before .key-at .ensures))) (c .if2 .left), (c .before .before .before .before .before .before .before .before .before .before .before .before .before .put-run .ensures .begun, c .before .before .before .before .before .before .before .before .before .before .before .before .before .put-run .ensures .inside))
+returns-2 c =
+    let back = c .before .before in
+    let key-at = back .key-at in
+    let back = back .before .before in
+    let if1 = back .if1 in
+    let back = back .before .before .before .before .before .before .before .before .before in
+    let put-run = back .put-run in
+    let other-key = back .before .before .other-key in
+    let back = back .before .before .before .before .before .before .before .before .before in
+    let pre = back .pre in
+    let reading = back .pre .0 in (
+      fills-other
+          (other-key .ensures)
+          (put-run .ensures)
+          (next-only _ _ (omega (arith, if1 .taken, only-cut reading (pre .1 .0) .records))
+          (only-key _ _ (only-cut reading (pre .1 .0) .bytes) refl (key-at .ensures)))
+          (c .if2 .left),
+      (put-run .ensures .begun, put-run .ensures .inside),
+    )
 
 same-length-5 : tie.Need-same-length-5
 same-length-5 c = search needs
@@ -72,7 +160,16 @@ same-length-6 : tie.Need-same-length-6
 same-length-6 c = search needs
 
 returns-3 : tie.Need-returns-3
-returns-3 c = (only-over (c .before .before .before .before .before .before .before .before .before .before .before .other-key .ensures) (c .before .before .before .before .before .before .before .before .before .put-run .ensures) (omega (arith, c .if1 .left, only-cut (c .before .before .before .before .before .before .before .before .before .before .before .before .before .before .before .before .before .before .pre .0) (c .before .before .before .before .before .before .before .before .before .before .before .before .before .before .before .before .before .before .pre .1 .0) .records)), (c .before .before .before .before .before .before .before .before .before .put-run .ensures .begun, c .before .before .before .before .before .before .before .before .before .put-run .ensures .inside))
+returns-3 c =
+    let back = c .before .before .before .before .before .before .before .before .before in
+    let put-run = back .put-run in
+    let other-key = back .before .before .other-key in
+    let back = back .before .before .before .before .before .before .before .before .before in
+    let pre = back .pre in
+    let reading = back .pre .0 in (
+      only-over (other-key .ensures) (put-run .ensures) (omega (arith, c .if1 .left, only-cut reading (pre .1 .0) .records)),
+      (put-run .ensures .begun, put-run .ensures .inside),
+    )
 
 pub put-only-spec : {M : Type 1} → statement M
 put-only-spec =

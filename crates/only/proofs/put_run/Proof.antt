@@ -19,25 +19,52 @@ abbrev μ-loop : tie.MeasureT-loop
 μ-loop t counts starts seg₀ from to first places₀ n at₀ last₀ seg places at last = to - at
 
 shared-slice-read-n : tie.Need-shared-slice-read-n Inv-loop μ-loop
-shared-slice-read-n c = omega (arith, c .before .before .before .before .before .before .pre .0)
+shared-slice-read-n c =
+    let reading = c .before .before .before .before .before .before .pre .0 in
+    omega (arith, reading)
 
 loop-holds : tie.Need-loop-holds Inv-loop μ-loop
-loop-holds c = (c .before .before .before .before .before .before .pre .0, putting-none (c .before .before .before .before .before .before .pre .1 .1))
+loop-holds c =
+    let pre = c .before .before .before .before .before .before .pre in
+    let reading = c .before .before .before .before .before .before .pre .0 in
+    (reading, putting-none (pre .1 .1))
 
 slice-read-if1 : tie.Need-slice-read-if1 Inv-loop μ-loop
-slice-read-if1 c = omega (arith, c .before .before .loop .inv .0)
+slice-read-if1 c =
+    let loop = c .before .before .loop in
+    omega (arith, loop .inv .0)
 
 same-length : tie.Need-same-length Inv-loop μ-loop
-same-length c = omega (arith, c .before .before .before .loop .inv .1 .room)
+same-length c =
+    let loop = c .before .before .before .loop in
+    omega (arith, loop .inv .1 .room)
 
 same-length-2 : tie.Need-same-length-2 Inv-loop μ-loop
-same-length-2 c = omega (arith, c .before .before .before .loop .inv .0, c .before .before .before .before .before .before .before .before .before .before .pre .0)
+same-length-2 c =
+    let loop = c .before .before .before .loop in
+    let reading = c .before .before .before .before .before .before .before .before .before .before .pre .0 in
+    omega (arith, loop .inv .0, reading)
 
 returns : tie.Need-returns Inv-loop μ-loop
-returns c = only-end (c .before .before .before .loop .inv .1) (omega (arith, c .if1 .taken, only-cut (c .before .before .before .before .before .before .before .before .before .before .pre .0) (c .before .before .before .before .before .before .before .before .before .before .pre .1 .0) .records))
+returns c =
+    let loop = c .before .before .before .loop in
+    let back = c .before .before .before .before .before .before .before .before .before .before in
+    let pre = back .pre in
+    let reading = back .pre .0 in
+    only-end (loop .inv .1) (omega (arith, c .if1 .taken, only-cut reading (pre .1 .0) .records))
 
 put-next-requires : tie.Need-put-next-requires Inv-loop μ-loop
-put-next-requires c κs = (c .before .before .before .before .before .loop .inv .0, (c .before .before .before .before .before .before .before .before .before .before .before .before .pre .1 .0, omega (arith, c .before .before .if1 .left, only-cut (c .before .before .before .before .before .before .before .before .before .before .before .before .pre .0) (c .before .before .before .before .before .before .before .before .before .before .before .before .pre .1 .0) .records), omega (arith, c .before .before .before .before .before .loop .inv .1 .room, c .before .before .before .before .loop-test .taken, c .before .before .before .before .before .before .before .before .before .before .before .before .pre .1)))
+put-next-requires c κs =
+    let back = c .before .before in
+    let if1 = back .if1 in
+    let loop-test = back .before .before .loop-test in
+    let loop = back .before .before .before .loop in
+    let back = back .before .before .before .before .before .before .before .before .before .before in
+    let pre = back .pre in
+    let reading = back .pre .0 in (
+      loop .inv .0,
+      (pre .1 .0, omega (arith, if1 .left, only-cut reading (pre .1 .0) .records), omega (arith, loop .inv .1 .room, loop-test .taken, pre .1)),
+    )
 
 add-at : tie.Need-add-at Inv-loop μ-loop
 add-at c = search needs
@@ -46,16 +73,42 @@ loop-less : tie.Need-loop-less Inv-loop μ-loop
 loop-less c = search needs
 
 loop-again : tie.Need-loop-again Inv-loop μ-loop
-loop-again c = (reading-on (c .before .before .before .before .before .before .before .before .before .before .loop .inv .0) (omega (arith, c .before .before .before .before .put-next .kept)), only-more (c .before .before .before .before .before .before .before .before .before .before .loop .inv .1) (c .before .before .before .before .before .before .before .before .before .loop-test .taken) (c .before .before .before .before .before .before .before .before .before .before .before .before .before .before .before .before .before .pre .1 .2) (omega (arith, c .before .before .before .before .before .before .before .if1 .left, only-cut (c .before .before .before .before .before .before .before .before .before .before .before .before .before .before .before .before .before .pre .0) (c .before .before .before .before .before .before .before .before .before .before .before .before .before .before .before .before .before .pre .1 .0) .records)) (c .before .before .before .before .put-next .ensures .0) (c .before .before .before .before .put-next .ensures .1 .0) (c .before .before .before .before .put-next .ensures .1 .1))
+loop-again c =
+    let back = c .before .before .before .before in
+    let put-next = back .put-next in
+    let back = back .before .before .before in
+    let if1 = back .if1 in
+    let loop-test = back .before .before .loop-test in
+    let loop = back .before .before .before .loop in
+    let back = back .before .before .before .before .before .before .before .before .before .before in
+    let pre = back .pre in
+    let reading = back .pre .0 in (
+      reading-on (loop .inv .0) (omega (arith, put-next .kept)),
+      only-more
+          (loop .inv .1)
+          (loop-test .taken)
+          (pre .1 .2)
+          (omega (arith, if1 .left, only-cut reading (pre .1 .0) .records))
+          (put-next .ensures .0)
+          (put-next .ensures .1 .0)
+          (put-next .ensures .1 .1),
+    )
 
 same-length-3 : tie.Need-same-length-3 Inv-loop μ-loop
-same-length-3 c = omega (arith, c .before .loop .inv .1 .room)
+same-length-3 c =
+    let loop = c .before .loop in
+    omega (arith, loop .inv .1 .room)
 
 same-length-4 : tie.Need-same-length-4 Inv-loop μ-loop
-same-length-4 c = omega (arith, c .before .loop .inv .0, c .before .before .before .before .before .before .before .before .pre .0)
+same-length-4 c =
+    let loop = c .before .loop in
+    let reading = c .before .before .before .before .before .before .before .before .pre .0 in
+    omega (arith, loop .inv .0, reading)
 
 returns-2 : tie.Need-returns-2 Inv-loop μ-loop
-returns-2 c = putting-end (c .before .loop .inv .1) (λ l. absurd (omega (arith, c .loop-test .left)))
+returns-2 c =
+    let loop = c .before .loop in
+    putting-end (loop .inv .1) (λ l. absurd (omega (arith, c .loop-test .left)))
 
 pub put-run-spec : {M : Type 1} → statement M
 put-run-spec =

@@ -14,11 +14,16 @@ segment-at-requires : tie.Need-segment-at-requires
 segment-at-requires c κs = search needs
 
 load-requires : tie.Need-load-requires
-load-requires c κs = (omega (arith, c .before .before .before .before .pre .0, c .segment-at .ensures), c .before .before .before .before .pre .1)
+load-requires c κs =
+    let pre = c .before .before .before .before .pre in
+    (omega (arith, pre .0, c .segment-at .ensures), pre .1)
 
 returns-2 : tie.Need-returns-2
 unfolding spotOf
-returns-2 c = again-other _ _ _ _ _ _ (c .before .before .if1 .left) (c .before .segment-at .ensures) (c .load .ensures)
+returns-2 c =
+    let segment-at = c .before .segment-at in
+    let if1 = c .before .before .if1 in
+    again-other _ _ _ _ _ _ (if1 .left) (segment-at .ensures) (c .load .ensures)
 
 pub again-spec : {M : Type 1} → statement M
 again-spec = tie.close (tie.spec returns segment-at-requires load-requires returns-2)

@@ -15,7 +15,9 @@ same-length c = search needs
 
 returns : tie.Need-returns
 unfolding begun
-returns c = c .before .before .page-segments .ensures
+returns c =
+    let page-segments = c .before .before .page-segments in
+    page-segments .ensures
 
 page-on-requires : tie.Need-page-on-requires
 page-on-requires c κs = search needs
@@ -25,7 +27,9 @@ same-length-2 c = search needs
 
 returns-2 : tie.Need-returns-2
 unfolding begun
-returns-2 c = c .before .before .page-on .ensures
+returns-2 c =
+    let page-on = c .before .before .page-on in
+    page-on .ensures
 
 pub page-from-spec : {M : Type 1} → statement M
 page-from-spec =

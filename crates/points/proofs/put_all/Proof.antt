@@ -17,13 +17,25 @@ loop-holds : tie.Need-loop-holds Inv-loop μ-loop
 loop-holds c = putting-first _ _ _ _ _
 
 mul-a : tie.Need-mul-a Inv-loop μ-loop
-mul-a c = omega (arith, c .loop-test .taken, c .before .before .before .before .before .pre .1 .0, c .before .before .before .before .before .pre .1 .1, c .before .before .before .before .before .good .1 .1 .1 .1 .0 .0)
+mul-a c =
+    let out-good = c .before .before .before .before .before .good .1 .1 .1 .1 .0 in
+    let pre = c .before .before .before .before .before .pre in
+    omega (arith, c .loop-test .taken, pre .1 .0, pre .1 .1, out-good .0)
 
 shared-slice-read-a : tie.Need-shared-slice-read-a Inv-loop μ-loop
-shared-slice-read-a c = omega (arith, c .before .loop-test .taken, c .before .before .before .before .before .before .pre .1 .0)
+shared-slice-read-a c =
+    let loop-test = c .before .loop-test in
+    let pre = c .before .before .before .before .before .before .pre in
+    omega (arith, loop-test .taken, pre .1 .0)
 
 add-write-from : tie.Need-add-write-from Inv-loop μ-loop
-add-write-from c = omega (arith, within-at _ _ (c .before .before .before .before .before .before .pre .0) _ (c .before .loop-test .taken) (c .before .before .before .before .before .before .pre .1 .0), c .before .before .before .before .before .before .good .0 .0)
+add-write-from c =
+    let loop-test = c .before .loop-test in
+    let back = c .before .before .before .before .before .before in
+    let t-good = back .good .0 in
+    let pre = back .pre in
+    let within = back .pre .0 in
+    omega (arith, within-at _ _ within _ (loop-test .taken) (pre .1 .0), t-good .0)
 
 sub-write-from : tie.Need-sub-write-from Inv-loop μ-loop
 sub-write-from c = omega arith
@@ -32,16 +44,36 @@ part-write-from-start : tie.Need-part-write-from-start Inv-loop μ-loop
 part-write-from-start c = omega arith
 
 part-write-from-end : tie.Need-part-write-from-end Inv-loop μ-loop
-part-write-from-end c = omega (arith, within-at _ _ (c .before .before .before .before .before .before .pre .0) _ (c .before .loop-test .taken) (c .before .before .before .before .before .before .pre .1 .0))
+part-write-from-end c =
+    let loop-test = c .before .loop-test in
+    let pre = c .before .before .before .before .before .before .pre in
+    let within = c .before .before .before .before .before .before .pre .0 in
+    omega (arith, within-at _ _ within _ (loop-test .taken) (pre .1 .0))
 
 add-write-from-2 : tie.Need-add-write-from-2 Inv-loop μ-loop
-add-write-from-2 c = omega (arith, c .before .before .before .loop-test .taken, c .before .before .before .before .before .before .before .before .pre .1 .1, c .before .before .before .before .before .before .before .before .good .1 .1 .1 .1 .0 .0)
+add-write-from-2 c =
+    let loop-test = c .before .before .before .loop-test in
+    let back = c .before .before .before .before .before .before .before .before in
+    let out-good = back .good .1 .1 .1 .1 .0 in
+    let pre = back .pre in
+    omega (arith, loop-test .taken, pre .1 .1, out-good .0)
 
 mul-write-from : tie.Need-mul-write-from Inv-loop μ-loop
-mul-write-from c = omega (arith, c .before .before .before .loop-test .taken, c .before .before .before .before .before .before .before .before .pre .1 .1, c .before .before .before .before .before .before .before .before .good .1 .1 .1 .1 .0 .0)
+mul-write-from c =
+    let loop-test = c .before .before .before .loop-test in
+    let back = c .before .before .before .before .before .before .before .before in
+    let out-good = back .good .1 .1 .1 .1 .0 in
+    let pre = back .pre in
+    omega (arith, loop-test .taken, pre .1 .1, out-good .0)
 
 write-from-requires : tie.Need-write-from-requires Inv-loop μ-loop
-write-from-requires c κs = (part-long _ _ refl (within-at _ _ (c .before .before .before .before .before .before .before .before .pre .0) _ (c .before .before .before .loop-test .taken) (c .before .before .before .before .before .before .before .before .pre .1 .0)), omega (arith, c .before .before .before .loop-test .taken, c .before .before .before .before .before .before .before .before .pre .1 .1, c .before .before .before .before .loop .inv .kept))
+write-from-requires c κs =
+    let back = c .before .before .before in
+    let loop-test = back .loop-test in
+    let loop = back .before .loop in
+    let pre = back .before .before .before .before .before .pre in
+    let within = back .before .before .before .before .before .pre .0 in
+    (part-long _ _ refl (within-at _ _ within _ (loop-test .taken) (pre .1 .0)), omega (arith, loop-test .taken, pre .1 .1, loop .inv .kept))
 
 add-i : tie.Need-add-i Inv-loop μ-loop
 add-i c = omega arith
@@ -50,13 +82,23 @@ loop-less : tie.Need-loop-less Inv-loop μ-loop
 loop-less c = omega arith
 
 loop-again : tie.Need-loop-again Inv-loop μ-loop
-loop-again c = putting-more (c .before .before .before .before .before .before .before .loop .inv) (c .before .before .before .before .before .before .loop-test .taken) (c .before .before .before .before .before .before .before .before .before .before .before .pre .1 .0) (c .before .before .before .before .before .before .before .before .before .before .before .pre .1 .1) refl (c .before .before .write-from .ensures)
+loop-again c =
+    let write-from = c .before .before .write-from in
+    let back = c .before .before .before .before .before .before in
+    let loop-test = back .loop-test in
+    let loop = back .before .loop in
+    let pre = back .before .before .before .before .before .pre in
+    putting-more (loop .inv) (loop-test .taken) (pre .1 .0) (pre .1 .1) refl (write-from .ensures)
 
 same-length : tie.Need-same-length Inv-loop μ-loop
-same-length c = c .before .loop .inv .kept
+same-length c =
+    let loop = c .before .loop in
+    loop .inv .kept
 
 returns : tie.Need-returns Inv-loop μ-loop
-returns c = putting-all (c .before .loop .inv) (c .loop-test .left)
+returns c =
+    let loop = c .before .loop in
+    putting-all (loop .inv) (c .loop-test .left)
 
 pub put-all-spec : {M : Type 1} → statement M
 put-all-spec =

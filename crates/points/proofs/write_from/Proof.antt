@@ -47,7 +47,28 @@ same-length : tie.Need-same-length
 same-length c = search needs
 
 returns : tie.Need-returns
-returns c = put-listed _ _ _ _ (omega arith) (omega arith) (ap (λ (k : ℕ). 25 * k) (c .before .before .before .before .before .before .before .before .before .before .before .before .before .before .before .size16 .ensures)) (c .before .before .before .before .before .before .before .before .before .before .before .before .before .big8 .ensures) (c .before .before .before .before .before .before .before .before .before .big82 .ensures) (c .before .before .before .before .before .before .before .before .big83 .ensures) (c .before .before .before .before .before .before .before .before .before .before .before .before .put8 .ensures) (c .before .before .before .before .before .before .put82 .ensures) (c .before .before .put83 .ensures)
+returns c =
+    let back = c .before .before in
+    let put83 = back .put83 in
+    let back = back .before .before .before .before in
+    let put82 = back .put82 in
+    let back = back .before .before in
+    let big83 = back .big83 in
+    let big82 = back .before .big82 in
+    let back = back .before .before .before .before in
+    let put8 = back .put8 in
+    let big8 = back .before .big8 in
+    let size16 = back .before .before .before .size16 in
+    put-listed _ _ _ _
+    (omega arith)
+    (omega arith)
+    (ap (λ (k : ℕ). 25 * k) (size16 .ensures))
+    (big8 .ensures)
+    (big82 .ensures)
+    (big83 .ensures)
+    (put8 .ensures)
+    (put82 .ensures)
+    (put83 .ensures)
 
 pub write-from-spec : {M : Type 1} → statement M
 write-from-spec =

@@ -31,22 +31,49 @@ shared-slice-read-e : tie.Need-shared-slice-read-e
 shared-slice-read-e c = search needs
 
 sub-write-from : tie.Need-sub-write-from
-sub-write-from c = cut _ (c .before .before .before .before .before .before .pre .0) (c .before .before .before .before .before .before .pre .1 .0) (c .before .before .wide-size .ensures) .start
+sub-write-from c =
+    let wide-size = c .before .before .wide-size in
+    let pre = c .before .before .before .before .before .before .pre in
+    let starts = c .before .before .before .before .before .before .pre .0 in
+    cut _ starts (pre .1 .0) (wide-size .ensures) .start
 
 part-write-from-start : tie.Need-part-write-from-start
-part-write-from-start c = cut _ (c .before .before .before .before .before .before .pre .0) (c .before .before .before .before .before .before .pre .1 .0) (c .before .before .wide-size .ensures) .start
+part-write-from-start c =
+    let wide-size = c .before .before .wide-size in
+    let pre = c .before .before .before .before .before .before .pre in
+    let starts = c .before .before .before .before .before .before .pre .0 in
+    cut _ starts (pre .1 .0) (wide-size .ensures) .start
 
 part-write-from-end : tie.Need-part-write-from-end
-part-write-from-end c = cut _ (c .before .before .before .before .before .before .pre .0) (c .before .before .before .before .before .before .pre .1 .0) (c .before .before .wide-size .ensures) .end
+part-write-from-end c =
+    let wide-size = c .before .before .wide-size in
+    let pre = c .before .before .before .before .before .before .pre in
+    let starts = c .before .before .before .before .before .before .pre .0 in
+    cut _ starts (pre .1 .0) (wide-size .ensures) .end
 
 write-from-requires : tie.Need-write-from-requires
-write-from-requires c κs = let k = cut _ (c .before .before .before .before .before .before .before .before .pre .0) (c .before .before .before .before .before .before .before .before .pre .1 .0) (c .before .before .before .before .wide-size .ensures) in (omega (arith, k .whole), omega arith)
+write-from-requires c κs =
+    let back = c .before .before .before .before in
+    let wide-size = back .wide-size in
+    let pre = back .before .before .before .before .pre in
+    let starts = back .before .before .before .before .pre .0 in
+    let k = cut _ starts (pre .1 .0) (wide-size .ensures) in (omega (arith, k .whole), omega arith)
 
 same-length : tie.Need-same-length
 same-length c = search needs
 
 returns : tie.Need-returns
-returns c = let k = cut _ (c .before .before .before .before .before .before .before .before .before .before .before .pre .0) (c .before .before .before .before .before .before .before .before .before .before .before .pre .1 .0) (c .before .before .before .before .before .before .before .wide-size .ensures) in c .before .before .write-from .ensures ∙ ap (λ (s : List ℕ). put (now (c .before .before .before .before .before .before .before .before .before .before .before .args .out)) (c .before .before .before .before .before .before .before .before .before .before .before .args .at) (listedBytes (recordAt s (c .before .before .before .before .before .before .before .before .before .before .before .args .p .0)))) (k .bytes)
+returns c =
+    let back = c .before .before in
+    let write-from = back .write-from in
+    let back = back .before .before .before .before .before in
+    let wide-size = back .wide-size in
+    let back = back .before .before .before .before in
+    let args = back .args in
+    let pre = back .pre in
+    let starts = back .pre .0 in
+    let k = cut _ starts (pre .1 .0) (wide-size .ensures) in
+    write-from .ensures ∙ ap (λ (s : List ℕ). put (now (args .out)) (args .at) (listedBytes (recordAt s (args .p .0)))) (k .bytes)
 
 pub write-point-spec : {M : Type 1} → statement M
 write-point-spec =

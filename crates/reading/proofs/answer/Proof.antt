@@ -43,7 +43,33 @@ same-length-5 : tie.Need-same-length-5
 same-length-5 c = search needs
 
 returns : tie.Need-returns
-returns c = (answered-rooms (c .before .before .before .before .before .before .before .before .before .before .before .before .before .before .before .before .before .before .before .before .before .before .before .before .before .args .line .now) (c .before .before .before .before .before .before .before .before .before .before .before .before .before .before .before .before .before .before .before .before .before .before .before .before .before .pre .0) (c .before .before .before .before .before .before .before .before .before .before .before .before .before .before .before .before .before .before .before .before .before .before .before .before .before .pre .1) (c .before .before .before .before .before .before .before .before .before .before .before .before .before .before .before .before .before .before .before .before .before .before .before .before .before .args .carried .filled + 65549 - c .before .before .before .before .before .before .before .before .before .before .before .before .before .before .before .before .before .before .before .before .before .before .before .before .before .args .carried .filled) (omega arith) (c .before .before .before .before .before .before .before .before .before .before .before .before .before .answer-line .ensures) (c .before .wrapping-add-u32 .result) (omega (arith, c .before .before .before .before .before .before .before .before .before .before .before .before .before .answer-line .kept)) (omega (arith, c .before .before .before .before .before .before .before .before .before .before .before .before .before .answer-line .kept)), answered-line (c .before .before .before .before .before .before .before .before .before .before .before .before .before .before .before .before .before .before .before .before .before .before .before .before .before .args .line .now) (c .before .before .before .before .before .before .before .before .before .before .before .before .before .before .before .before .before .before .before .before .before .before .before .before .before .pre .0) (c .before .before .before .before .before .before .before .before .before .before .before .before .before .before .before .before .before .before .before .before .before .before .before .before .before .pre .1) (c .before .before .before .before .before .before .before .before .before .before .before .before .before .before .before .before .before .before .before .before .before .before .before .before .before .args .carried .filled + 65549 - c .before .before .before .before .before .before .before .before .before .before .before .before .before .before .before .before .before .before .before .before .before .before .before .before .before .args .carried .filled) (omega arith) (c .before .before .before .before .before .before .before .before .before .before .before .before .before .answer-line .ensures) (c .before .wrapping-add-u32 .ensures))
+returns c =
+    let wrapping-add-u32 = c .before .wrapping-add-u32 in
+    let back = c .before .before .before .before .before .before .before .before .before .before .before .before .before in
+    let answer-line = back .answer-line in
+    let back = back .before .before .before .before .before .before .before .before .before .before .before .before in
+    let args = back .args in
+    let pre = back .pre in
+    let rooms = back .pre .0 in (
+      answered-rooms
+          (args .line .now)
+          rooms
+          (pre .1)
+          (args .carried .filled + 65549 - args .carried .filled)
+          (omega arith)
+          (answer-line .ensures)
+          (wrapping-add-u32 .result)
+          (omega (arith, answer-line .kept))
+          (omega (arith, answer-line .kept)),
+      answered-line
+          (args .line .now)
+          rooms
+          (pre .1)
+          (args .carried .filled + 65549 - args .carried .filled)
+          (omega arith)
+          (answer-line .ensures)
+          (wrapping-add-u32 .ensures),
+    )
 
 pub answer-spec : {M : Type 1} → statement M
 answer-spec =

@@ -8,10 +8,15 @@ use Rattle.reading.proofs.finish.Statement.{statement}
 use Rattle.reading.proofs.finish.Tie as tie
 
 returns : tie.Need-returns
-returns c = (c .before .before .before .before .before .before .before .pre .0, finishes-none (c .before .before .before .before .before .before .before .args .line .now) (c .if1 .taken))
+returns c =
+    let args = c .before .before .before .before .before .before .before .args in
+    let rooms = c .before .before .before .before .before .before .before .pre .0 in
+    (rooms, finishes-none (args .line .now) (c .if1 .taken))
 
 slice-aggregate-answer : tie.Need-slice-aggregate-answer
-slice-aggregate-answer c = sym (length-take-le _ _ (omega (arith, c .before .before .before .before .before .before .before .before .pre .1)))
+slice-aggregate-answer c =
+    let pre = c .before .before .before .before .before .before .before .before .pre in
+    sym (length-take-le _ _ (omega (arith, pre .1)))
 
 answer-requires : tie.Need-answer-requires
 answer-requires c κs = search needs
@@ -32,7 +37,12 @@ same-length-5 : tie.Need-same-length-5
 same-length-5 c = search needs
 
 returns-2 : tie.Need-returns-2
-returns-2 c = (c .before .before .before .before .before .before .before .before .before .before .answer .ensures .0, finishes-line (c .before .before .before .before .before .before .before .before .before .before .before .before .before .before .before .before .before .before .before .before .before .before .before .before .args .line .now) (c .before .before .before .before .before .before .before .before .before .before .before .before .before .before .before .before .before .if1 .left) (c .before .before .before .before .before .before .before .before .before .before .answer .ensures .1))
+returns-2 c =
+    let back = c .before .before .before .before .before .before .before .before .before .before in
+    let answer = back .answer in
+    let if1 = back .before .before .before .before .before .before .before .if1 in
+    let args = back .before .before .before .before .before .before .before .before .before .before .before .before .before .before .args in
+    (answer .ensures .0, finishes-line (args .line .now) (if1 .left) (answer .ensures .1))
 
 pub finish-spec : {M : Type 1} → statement M
 finish-spec =

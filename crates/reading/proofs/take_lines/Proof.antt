@@ -17,85 +17,177 @@ abbrev μ-loop : tie.MeasureT-loop
     length piece - i
 
 loop-holds : tie.Need-loop-holds Inv-loop μ-loop
-loop-holds c = taking-none (c .before .before .before .before .before .before .before .pre .0) (c .before .before .before .before .before .before .before .pre .1 .0) (c .before .before .before .before .before .before .before .pre .1 .1) (c .before .before .before .before .before .before .before .pre .1 .2) (c .before .before .before .before .before .before .before .pre .1 .3)
+loop-holds c =
+    let pre = c .before .before .before .before .before .before .before .pre in
+    let rooms = c .before .before .before .before .before .before .before .pre .0 in
+    taking-none rooms (pre .1 .0) (pre .1 .1) (pre .1 .2) (pre .1 .3)
 
 line-end-requires : tie.Need-line-end-requires Inv-loop μ-loop
-line-end-requires c κs = c .before .before .loop .inv .high
+line-end-requires c κs =
+    let loop = c .before .before .loop in
+    loop .inv .high
 
 sub-gather : tie.Need-sub-gather Inv-loop μ-loop
-sub-gather c = omega (arith, c .before .before .before .before .before .loop .inv .high)
+sub-gather c =
+    let loop = c .before .before .before .before .before .loop in
+    omega (arith, loop .inv .high)
 
 part-gather-start : tie.Need-part-gather-start Inv-loop μ-loop
-part-gather-start c = c .before .before .before .before .before .loop .inv .high
+part-gather-start c =
+    let loop = c .before .before .before .before .before .loop in
+    loop .inv .high
 
 part-gather-end : tie.Need-part-gather-end Inv-loop μ-loop
 part-gather-end c = omega arith
 
 gather-requires : tie.Need-gather-requires Inv-loop μ-loop
-gather-requires c κs = (c .before .before .before .before .before .before .before .loop .inv .line-room, c .before .before .before .before .before .before .before .loop .inv .gathers)
+gather-requires c κs =
+    let loop = c .before .before .before .before .before .before .before .loop in
+    (loop .inv .line-room, loop .inv .gathers)
 
 same-length : tie.Need-same-length Inv-loop μ-loop
-same-length c = omega (arith, c .before .before .gather .kept, c .before .before .before .before .before .before .before .before .before .before .loop .inv .line-room, c .before .before .before .before .before .before .before .before .before .before .before .before .before .before .before .before .before .before .pre .1 .0)
+same-length c =
+    let gather = c .before .before .gather in
+    let back = c .before .before .before .before .before .before .before .before .before .before in
+    let loop = back .loop in
+    let pre = back .before .before .before .before .before .before .before .before .pre in
+    omega (arith, gather .kept, loop .inv .line-room, pre .1 .0)
 
 same-length-2 : tie.Need-same-length-2 Inv-loop μ-loop
-same-length-2 c = c .before .before .before .before .before .before .before .before .before .before .loop .inv .rooms .tray-room ∙ sym (c .before .before .before .before .before .before .before .before .before .before .before .before .before .before .before .before .before .before .pre .0 .tray-room)
+same-length-2 c =
+    let back = c .before .before .before .before .before .before .before .before .before .before in
+    let loop = back .loop in
+    let rooms = back .before .before .before .before .before .before .before .before .pre .0 in
+    loop .inv .rooms .tray-room ∙ sym (rooms .tray-room)
 
 same-length-3 : tie.Need-same-length-3 Inv-loop μ-loop
-same-length-3 c = c .before .before .before .before .before .before .before .before .before .before .loop .inv .rooms .index-room ∙ sym (c .before .before .before .before .before .before .before .before .before .before .before .before .before .before .before .before .before .before .pre .0 .index-room)
+same-length-3 c =
+    let back = c .before .before .before .before .before .before .before .before .before .before in
+    let loop = back .loop in
+    let rooms = back .before .before .before .before .before .before .before .before .pre .0 in
+    loop .inv .rooms .index-room ∙ sym (rooms .index-room)
 
 same-length-4 : tie.Need-same-length-4 Inv-loop μ-loop
-same-length-4 c = c .before .before .before .before .before .before .before .before .before .before .loop .inv .rooms .frame-room ∙ sym (c .before .before .before .before .before .before .before .before .before .before .before .before .before .before .before .before .before .before .pre .0 .frame-room)
+same-length-4 c =
+    let back = c .before .before .before .before .before .before .before .before .before .before in
+    let loop = back .loop in
+    let rooms = back .before .before .before .before .before .before .before .before .pre .0 in
+    loop .inv .rooms .frame-room ∙ sym (rooms .frame-room)
 
 same-length-5 : tie.Need-same-length-5 Inv-loop μ-loop
-same-length-5 c = c .before .before .before .before .before .before .before .before .before .before .loop .inv .rooms .listing-room ∙ sym (c .before .before .before .before .before .before .before .before .before .before .before .before .before .before .before .before .before .before .pre .0 .listing-room)
+same-length-5 c =
+    let back = c .before .before .before .before .before .before .before .before .before .before in
+    let loop = back .loop in
+    let rooms = back .before .before .before .before .before .before .before .before .pre .0 in
+    loop .inv .rooms .listing-room ∙ sym (rooms .listing-room)
 
 same-length-6 : tie.Need-same-length-6 Inv-loop μ-loop
-same-length-6 c = c .before .before .before .before .before .before .before .before .before .before .loop .inv .rooms .output-room ∙ sym (c .before .before .before .before .before .before .before .before .before .before .before .before .before .before .before .before .before .before .pre .0 .output-room)
+same-length-6 c =
+    let back = c .before .before .before .before .before .before .before .before .before .before in
+    let loop = back .loop in
+    let rooms = back .before .before .before .before .before .before .before .before .pre .0 in
+    loop .inv .rooms .output-room ∙ sym (rooms .output-room)
 
 returns : tie.Need-returns Inv-loop μ-loop
-returns c = (rest-rooms (c .before .before .before .before .before .before .before .before .before .before .loop .inv), takes-rest (c .before .before .before .before .before .before .before .before .before .before .loop .inv) (c .before .before .before .before .before .before .before .line-end .ensures) (c .before .before .before .before .before .before .if2 .taken) (c .before .before .gather .ensures))
+returns c =
+    let gather = c .before .before .gather in
+    let back = c .before .before .before .before .before .before in
+    let if2 = back .if2 in
+    let line-end = back .before .line-end in
+    let loop = back .before .before .before .before .loop in
+    (rest-rooms (loop .inv), takes-rest (loop .inv) (line-end .ensures) (if2 .taken) (gather .ensures))
 
 sub-end-line : tie.Need-sub-end-line Inv-loop μ-loop
-sub-end-line c = c .before .line-end .ensures .low
+sub-end-line c =
+    let line-end = c .before .line-end in
+    line-end .ensures .low
 
 part-end-line-start : tie.Need-part-end-line-start Inv-loop μ-loop
-part-end-line-start c = c .before .line-end .ensures .low
+part-end-line-start c =
+    let line-end = c .before .line-end in
+    line-end .ensures .low
 
 part-end-line-end : tie.Need-part-end-line-end Inv-loop μ-loop
-part-end-line-end c = c .before .line-end .ensures .high
+part-end-line-end c =
+    let line-end = c .before .line-end in
+    line-end .ensures .high
 
 end-line-requires : tie.Need-end-line-requires Inv-loop μ-loop
-end-line-requires c κs = (c .before .before .before .before .before .before .before .before .before .before .before .loop .inv .rooms, (c .before .before .before .before .before .before .before .before .before .before .before .loop .inv .line-room, c .before .before .before .before .before .before .before .before .before .before .before .loop .inv .gathers, c .before .before .before .before .before .before .before .before .before .if1 .taken))
+end-line-requires c κs =
+    let back = c .before .before .before .before .before .before .before .before .before in
+    let if1 = back .if1 in
+    let loop = back .before .before .loop in
+    (loop .inv .rooms, (loop .inv .line-room, loop .inv .gathers, if1 .taken))
 
 add-i : tie.Need-add-i Inv-loop μ-loop
-add-i c = omega (arith, c .before .before .before .before .before .before .before .before .before .before .before .before .before .before .before .before .before .before .before .before .before .line-end .ensures .high, c .before .before .before .before .before .before .before .before .before .before .before .before .before .before .before .before .before .before .before .before .if2 .left, c .before .before .before .before .before .before .before .before .before .before .before .before .before .before .before .before .before .before .before .before .before .before .before .before .before .before .before .before .before .before .before .before .good .0 .0)
+add-i c =
+    let back =
+    c .before .before .before .before .before .before .before .before .before .before .before .before .before .before .before .before .before .before
+    .before .before in
+    let if2 = back .if2 in
+    let line-end = back .before .line-end in
+    let piece-good = back .before .before .before .before .before .before .before .before .before .before .before .before .good .0 in
+    omega (arith, line-end .ensures .high, if2 .left, piece-good .0)
 
 loop-less : tie.Need-loop-less Inv-loop μ-loop
-loop-less c = omega (arith, c .before .before .before .before .before .before .before .before .before .before .before .before .before .before .before .before .before .before .before .before .before .line-end .ensures .high, c .before .before .before .before .before .before .before .before .before .before .before .before .before .before .before .before .before .before .before .before .before .line-end .ensures .low, c .before .before .before .before .before .before .before .before .before .before .before .before .before .before .before .before .before .before .before .before .if2 .left)
+loop-less c =
+    let back =
+    c .before .before .before .before .before .before .before .before .before .before .before .before .before .before .before .before .before .before
+    .before .before in
+    let if2 = back .if2 in
+    let line-end = back .before .line-end in
+    omega (arith, line-end .ensures .high, line-end .ensures .low, if2 .left)
 
 loop-again : tie.Need-loop-again Inv-loop μ-loop
-loop-again c = taking-more (c .before .before .before .before .before .before .before .before .before .before .before .before .before .before .before .before .before .before .before .before .before .before .before .before .loop .inv) (c .before .before .before .before .before .before .before .before .before .before .before .before .before .before .before .before .before .before .before .before .before .line-end .ensures) (c .before .before .before .before .before .before .before .before .before .before .before .before .before .before .before .before .before .before .before .before .if2 .left) (c .before .before .before .before .before .before .before .before .before .before .before .before .end-line .ensures .0) (c .before .before .before .before .before .before .before .before .before .before .before .before .end-line .ensures .1) (omega (arith, c .before .before .before .before .before .before .before .before .before .before .before .before .end-line .kept))
+loop-again c =
+    let back = c .before .before .before .before .before .before .before .before .before .before .before .before in
+    let end-line = back .end-line in
+    let back = back .before .before .before .before .before .before .before .before in
+    let if2 = back .if2 in
+    let line-end = back .before .line-end in
+    let loop = back .before .before .before .before .loop in
+    taking-more (loop .inv) (line-end .ensures) (if2 .left) (end-line .ensures .0) (end-line .ensures .1) (omega (arith, end-line .kept))
 
 same-length-7 : tie.Need-same-length-7 Inv-loop μ-loop
-same-length-7 c = c .before .before .loop .inv .line-room ∙ sym (c .before .before .before .before .before .before .before .before .before .before .pre .1 .0)
+same-length-7 c =
+    let loop = c .before .before .loop in
+    let pre = c .before .before .before .before .before .before .before .before .before .before .pre in
+    loop .inv .line-room ∙ sym (pre .1 .0)
 
 same-length-8 : tie.Need-same-length-8 Inv-loop μ-loop
-same-length-8 c = c .before .before .loop .inv .rooms .tray-room ∙ sym (c .before .before .before .before .before .before .before .before .before .before .pre .0 .tray-room)
+same-length-8 c =
+    let loop = c .before .before .loop in
+    let rooms = c .before .before .before .before .before .before .before .before .before .before .pre .0 in
+    loop .inv .rooms .tray-room ∙ sym (rooms .tray-room)
 
 same-length-9 : tie.Need-same-length-9 Inv-loop μ-loop
-same-length-9 c = c .before .before .loop .inv .rooms .index-room ∙ sym (c .before .before .before .before .before .before .before .before .before .before .pre .0 .index-room)
+same-length-9 c =
+    let loop = c .before .before .loop in
+    let rooms = c .before .before .before .before .before .before .before .before .before .before .pre .0 in
+    loop .inv .rooms .index-room ∙ sym (rooms .index-room)
 
 same-length-10 : tie.Need-same-length-10 Inv-loop μ-loop
-same-length-10 c = c .before .before .loop .inv .rooms .frame-room ∙ sym (c .before .before .before .before .before .before .before .before .before .before .pre .0 .frame-room)
+same-length-10 c =
+    let loop = c .before .before .loop in
+    let rooms = c .before .before .before .before .before .before .before .before .before .before .pre .0 in
+    loop .inv .rooms .frame-room ∙ sym (rooms .frame-room)
 
 same-length-11 : tie.Need-same-length-11 Inv-loop μ-loop
-same-length-11 c = c .before .before .loop .inv .rooms .listing-room ∙ sym (c .before .before .before .before .before .before .before .before .before .before .pre .0 .listing-room)
+same-length-11 c =
+    let loop = c .before .before .loop in
+    let rooms = c .before .before .before .before .before .before .before .before .before .before .pre .0 in
+    loop .inv .rooms .listing-room ∙ sym (rooms .listing-room)
 
 same-length-12 : tie.Need-same-length-12 Inv-loop μ-loop
-same-length-12 c = c .before .before .loop .inv .rooms .output-room ∙ sym (c .before .before .before .before .before .before .before .before .before .before .pre .0 .output-room)
+same-length-12 c =
+    let loop = c .before .before .loop in
+    let rooms = c .before .before .before .before .before .before .before .before .before .before .pre .0 in
+    loop .inv .rooms .output-room ∙ sym (rooms .output-room)
 
 returns-2 : tie.Need-returns-2 Inv-loop μ-loop
-returns-2 c = (c .before .before .loop .inv .rooms, takes-full (c .before .before .loop .inv) (c .if1 .left))
+returns-2 c =
+    let loop = c .before .before .loop in
+    (loop .inv .rooms, takes-full (loop .inv) (c .if1 .left))
 
 pub take-lines-spec : {M : Type 1} → statement M
 take-lines-spec =

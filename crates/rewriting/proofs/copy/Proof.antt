@@ -21,10 +21,15 @@ shared-slice-read-out : tie.Need-shared-slice-read-out Inv-loop μ-loop
 shared-slice-read-out c = search needs
 
 add-out : tie.Need-add-out Inv-loop μ-loop
-add-out c = omega (arith, c .before .before .before .pre)
+add-out c =
+    let pre = c .before .before .before .pre in
+    omega (arith, pre)
 
 slice-write-out : tie.Need-slice-write-out Inv-loop μ-loop
-slice-write-out c = omega (arith, c .before .before .before .pre, c .before .before .loop .inv .room)
+slice-write-out c =
+    let loop = c .before .before .loop in
+    let pre = c .before .before .before .pre in
+    omega (arith, pre, loop .inv .room)
 
 add-i : tie.Need-add-i Inv-loop μ-loop
 add-i c = omega arith
@@ -33,13 +38,20 @@ loop-less : tie.Need-loop-less Inv-loop μ-loop
 loop-less c = omega arith
 
 loop-again : tie.Need-loop-again Inv-loop μ-loop
-loop-again c = copying-more (c .before .before .loop .inv) (omega arith) (omega (arith, c .before .before .before .pre, c .before .before .loop .inv .room))
+loop-again c =
+    let loop = c .before .before .loop in
+    let pre = c .before .before .before .pre in
+    copying-more (loop .inv) (omega arith) (omega (arith, pre, loop .inv .room))
 
 same-length : tie.Need-same-length Inv-loop μ-loop
-same-length c = c .before .loop .inv .room
+same-length c =
+    let loop = c .before .loop in
+    loop .inv .room
 
 returns : tie.Need-returns Inv-loop μ-loop
-returns c = copying-end (c .before .loop .inv) (omega arith)
+returns c =
+    let loop = c .before .loop in
+    copying-end (loop .inv) (omega arith)
 
 pub copy-spec : {M : Type 1} → statement M
 copy-spec =

@@ -50,7 +50,32 @@ same-length : tie.Need-same-length
 same-length c = search needs
 
 returns : tie.Need-returns
-returns c = body-put (c .before .before .before .before .before .before .before .before .before .before .before .before .before .before .before .before .before .args .t .now) (c .before .before .before .before .before .before .before .before .before .before .before .before .before .before .before .before .before .args .out .now) (c .before .before .before .before .before .before .before .before .before .before .before .before .before .before .before .before .before .args .x) (c .before .before .before .before .before .before .before .before .before .before .before .before .before .before .before .before .before .args .y) (c .before .before .before .before .before .before .before .before .before .before .before .before .before .before .before .before .before .args .z) (c .before .before .before .before .before .before .before .before .before .before .before .before .before .before .before .before .before .args .n) (c .before .before .before .before .before .before .before .before .before .before .before .before .before .before .before .before .before .args .at) _ (c .before .before .before .before .before .before .before .before .before .before .before .before .before .before .before .before .before .pre .0 .0) (c .before .before .before .before .before .before .before .before .before .before .before .before .before .before .before .before .before .pre .0 .1) (omega (arith, c .before .before .before .before .before .before .before .before .before .before .before .before .before .before .before .before .before .pre .1)) (kept-number (c .before .before .before .before .before .before .before .before .before .before .before .before .before .before .before .before .before .args .t .now) (c .before .before .before .before .before .before .before .before .before .before .before .before .before .before .before .before .before .args .kept .now) (c .before .before .before .before .before .before .before .before .before .before .before .before .before .before .before .before .before .pre .1 .0 .0)) refl refl (c .before .before .before .before .before .before .before .before .before .before .before .copy .ensures) (c .before .before .before .before .before .before .before .put-records .ensures) (c .before .before .copy2 .ensures)
+returns c =
+    let back = c .before .before in
+    let copy2 = back .copy2 in
+    let back = back .before .before .before .before .before in
+    let put-records = back .put-records in
+    let back = back .before .before .before .before in
+    let copy = back .copy in
+    let args = back .before .before .before .before .before .before .args in
+    let pre = back .before .before .before .before .before .before .pre in
+    body-put
+    (args .t .now)
+    (args .out .now)
+    (args .x)
+    (args .y)
+    (args .z)
+    (args .n)
+    (args .at)
+    _
+    (pre .0 .0)
+    (pre .0 .1)
+    (omega (arith, pre .1))
+    (kept-number (args .t .now) (args .kept .now) (pre .1 .0 .0))
+    refl refl
+    (copy .ensures)
+    (put-records .ensures)
+    (copy2 .ensures)
 
 pub put-body-spec : {M : Type 1} → statement M
 put-body-spec =

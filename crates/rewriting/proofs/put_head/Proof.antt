@@ -20,13 +20,19 @@ slice-write-out : tie.Need-slice-write-out
 slice-write-out c = search needs
 
 slice-write-out-2 : tie.Need-slice-write-out-2
-slice-write-out-2 c = simp length-set (omega (arith, c .before .before .pre))
+slice-write-out-2 c =
+    let pre = c .before .before .pre in
+    simp length-set (omega (arith, pre))
 
 slice-write-out-3 : tie.Need-slice-write-out-3
-slice-write-out-3 c = simp length-set (omega (arith, c .before .before .pre))
+slice-write-out-3 c =
+    let pre = c .before .before .pre in
+    simp length-set (omega (arith, pre))
 
 slice-write-out-4 : tie.Need-slice-write-out-4
-slice-write-out-4 c = simp length-set (omega (arith, c .before .before .pre))
+slice-write-out-4 c =
+    let pre = c .before .before .pre in
+    simp length-set (omega (arith, pre))
 
 wide-size-requires : tie.Need-wide-size-requires
 wide-size-requires c κs = search needs
@@ -65,10 +71,22 @@ part-copy-end : tie.Need-part-copy-end
 part-copy-end c = search needs
 
 copy-requires : tie.Need-copy-requires
-copy-requires c κs = simp length-set (between-fits 4 (4 + 2 * c .before .before .before .before .wide-size .result) (c .before .before .before .before .before .before .before .args .t .now) 4 (omega (arith, c .before .before .before .before .wide-size .ensures)) (omega (arith, c .before .before .before .before .before .before .before .pre, c .before .before .before .before .wide-size .ensures)) (omega (arith, c .before .before .before .before .before .before .before .pre, c .before .before .before .before .wide-size .ensures)))
+copy-requires c κs =
+    let back = c .before .before .before .before in
+    let wide-size = back .wide-size in
+    let args = back .before .before .before .args in
+    let pre = back .before .before .before .pre in
+    simp length-set
+    (between-fits 4 (4 + 2 * wide-size .result) (args .t .now) 4 (omega (arith, wide-size .ensures)) (omega (arith, pre, wide-size .ensures))
+    (omega (arith, pre, wide-size .ensures)))
 
 put2-requires : tie.Need-put2-requires
-put2-requires c κs = omega (arith, c .before .before .before .before .before .before .before .before .before .before .before .pre, c .before .before .before .before .before .before .before .before .wide-size .ensures, simp length-set at (c .before .before .before .copy .kept .1 .0))
+put2-requires c κs =
+    let copy-out-kept = c .before .before .before .copy .kept .1 .0 in
+    let back = c .before .before .before .before .before .before .before .before in
+    let wide-size = back .wide-size in
+    let pre = back .before .before .before .pre in
+    omega (arith, pre, wide-size .ensures, simp length-set at copy-out-kept)
 
 sub-copy-2 : tie.Need-sub-copy-2
 sub-copy-2 c = search needs
@@ -83,13 +101,65 @@ add-copy : tie.Need-add-copy
 add-copy c = search needs
 
 copy-requires-2 : tie.Need-copy-requires-2
-copy-requires-2 c κs = between-fits (6 + 2 * c .before .before .before .before .before .before .before .before .before .before .before .before .wide-size2 .result) (4 + 2 * c .before .before .before .before .before .before .before .before .before .before .before .wide-size3 .result) (c .before .before .before .before .before .before .before .before .before .before .before .before .before .before .before .before .args .t .now) (4 + 2 * c .before .before .before .before .before .before .before .before .before .before .before .before .before .wide-size .result + 2) (omega (arith, c .before .before .before .before .before .before .before .before .before .before .before .before .before .before .before .before .pre, c .before .before .before .before .before .before .before .before .before .before .before .before .wide-size2 .ensures, c .before .before .before .before .before .before .before .before .before .before .before .wide-size3 .ensures)) (omega (arith, c .before .before .before .before .before .before .before .before .before .before .before .before .before .before .before .before .pre, c .before .before .before .before .before .before .before .before .before .before .before .wide-size3 .ensures)) (omega (arith, c .before .before .before .before .before .before .before .before .before .before .before .before .before .before .before .before .pre, c .before .before .before .before .before .before .before .before .before .before .before .before .before .wide-size .ensures, c .before .before .before .before .before .before .before .before .before .before .before .before .wide-size2 .ensures, c .before .before .before .before .before .before .before .before .before .before .before .wide-size3 .ensures, c .before .before .before .before .put2 .kept, simp length-set at (c .before .before .before .before .before .before .before .before .copy .kept .1 .0)))
+copy-requires-2 c κs =
+    let back = c .before .before .before .before in
+    let put2 = back .put2 in
+    let back = back .before .before .before .before in
+    let copy-out-kept = back .copy .kept .1 .0 in
+    let back = back .before .before .before in
+    let wide-size3 = back .wide-size3 in
+    let wide-size2 = back .before .wide-size2 in
+    let wide-size = back .before .before .wide-size in
+    let args = back .before .before .before .before .before .args in
+    let pre = back .before .before .before .before .before .pre in
+    between-fits
+    (6 + 2 * wide-size2 .result)
+    (4 + 2 * wide-size3 .result)
+    (args .t .now)
+    (4 + 2 * wide-size .result + 2)
+    (omega (arith, pre, wide-size2 .ensures, wide-size3 .ensures))
+    (omega (arith, pre, wide-size3 .ensures))
+    (omega (arith, pre, wide-size .ensures, wide-size2 .ensures, wide-size3 .ensures, put2 .kept, simp length-set at copy-out-kept))
 
 same-length : tie.Need-same-length
-same-length c = c .before .before .copy2 .kept .1 .0 ∙ c .before .before .before .before .before .before .before .put2 .kept .0 ∙ c .before .before .before .before .before .before .before .before .before .before .before .copy .kept .1 .0 ∙ simp length-set
+same-length c =
+    let copy2-out-kept = c .before .before .copy2 .kept .1 .0 in
+    let put2-out-kept = c .before .before .before .before .before .before .before .put2 .kept .0 in
+    let copy-out-kept = c .before .before .before .before .before .before .before .before .before .before .before .copy .kept .1 .0 in
+    copy2-out-kept ∙ put2-out-kept ∙ copy-out-kept ∙ simp length-set
 
 returns : tie.Need-returns
-returns c = head-put (c .before .before .before .before .before .before .before .before .before .before .before .before .before .before .before .before .before .before .before .args .t .now) (c .before .before .before .before .before .before .before .before .before .before .before .before .before .before .before .before .before .before .before .args .out .now) (c .before .before .before .before .before .before .before .before .before .before .before .before .before .before .before .before .before .before .before .args .h) (c .before .before .before .before .before .before .before .before .before .before .before .before .before .before .before .before .before .before .before .args .a) (c .before .before .before .before .before .before .before .before .before .before .before .before .before .before .before .before .before .before .before .args .b) (c .before .before .before .before .before .before .before .before .before .before .before .before .before .before .before .before .before .before .before .args .n) (c .before .before .before .before .before .before .before .before .before .before .before .before .before .before .before .before .before .before .before .pre .0) (c .before .before .before .before .before .before .before .before .before .before .before .before .before .before .before .before .before .before .before .pre .1) (c .before .before .before .before .before .before .before .before .before .before .before .before .before .before .before .before .before .before .before .pre .2) (c .before .before .before .before .before .before .before .before .before .before .before .before .before .before .before .before .before .before .before .pre .3) (c .before .before .before .before .before .before .before .before .before .before .before .before .before .before .before .before .before .before .before .pre .4) (c .before .before .before .before .before .before .before .before .before .before .before .before .before .before .before .before .wide-size .ensures) (c .before .before .before .before .before .before .before .before .before .before .before .before .before .before .before .wide-size2 .ensures) (c .before .before .before .before .before .before .before .before .before .before .before .before .before .before .wide-size3 .ensures) (c .before .before .before .before .before .before .before .before .before .before .before .copy .ensures) (c .before .before .before .before .before .before .before .put2 .ensures) (c .before .before .copy2 .ensures)
+returns c =
+    let back = c .before .before in
+    let copy2 = back .copy2 in
+    let back = back .before .before .before .before .before in
+    let put2 = back .put2 in
+    let back = back .before .before .before .before in
+    let copy = back .copy in
+    let back = back .before .before .before in
+    let wide-size3 = back .wide-size3 in
+    let wide-size2 = back .before .wide-size2 in
+    let wide-size = back .before .before .wide-size in
+    let args = back .before .before .before .before .before .args in
+    let pre = back .before .before .before .before .before .pre in
+    head-put
+    (args .t .now)
+    (args .out .now)
+    (args .h)
+    (args .a)
+    (args .b)
+    (args .n)
+    (pre .0)
+    (pre .1)
+    (pre .2)
+    (pre .3)
+    (pre .4)
+    (wide-size .ensures)
+    (wide-size2 .ensures)
+    (wide-size3 .ensures)
+    (copy .ensures)
+    (put2 .ensures)
+    (copy2 .ensures)
 
 pub put-head-spec : {M : Type 1} → statement M
 put-head-spec =

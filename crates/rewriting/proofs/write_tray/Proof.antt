@@ -36,7 +36,23 @@ cast-put-head : tie.Need-cast-put-head
 cast-put-head c = search needs
 
 put-head-requires : tie.Need-put-head-requires
-put-head-requires c κs = let laid = laid-parts (c .before .before .before .before .before .before .before .pre .0 .0) (bytes-known (c .before .before .before .before .before .before .before .args .t .now) (c .before .before .before .before .before .before .shared-slice-known .given)) (c .before .before .before .before .before .before .before .pre .1 .0 .number) (c .before .before .wide-size .ensures) (c .before .wide-size2 .ensures) in (c .before .before .before .before .before .before .before .pre .0 .0 .opened .runs, c .before .before .before .before .before .before .before .pre .0 .0 .order, omega (arith, c .before .before .before .before .before .before .before .pre .0 .0 .within, c .before .before .before .before .before .before .before .pre .0 .0 .opened .runs), laid .counts, omega (arith, laid .size, c .before .before .before .before .before .before .before .pre .1 .1))
+put-head-requires c κs =
+    let wide-size2 = c .before .wide-size2 in
+    let back = c .before .before in
+    let wide-size = back .wide-size in
+    let back = back .before .before .before .before in
+    let shared-slice-known = back .shared-slice-known in
+    let args = back .before .args in
+    let pre = back .before .pre in
+    let noted = back .before .pre .1 .0 in
+    let laid =
+    laid-parts (pre .0 .0) (bytes-known (args .t .now) (shared-slice-known .given)) (noted .number) (wide-size .ensures) (wide-size2 .ensures) in (
+      pre .0 .0 .opened .runs,
+      pre .0 .0 .order,
+      omega (arith, pre .0 .0 .within, pre .0 .0 .opened .runs),
+      laid .counts,
+      omega (arith, laid .size, pre .1 .1),
+    )
 
 sub-wide-size : tie.Need-sub-wide-size
 sub-wide-size c = search needs
@@ -54,13 +70,62 @@ add-put-body : tie.Need-add-put-body
 add-put-body c = search needs
 
 put-body-requires : tie.Need-put-body-requires
-put-body-requires c κs = let laid = laid-parts (c .before .before .before .before .before .before .before .before .before .before .before .before .pre .0 .0) (bytes-known (c .before .before .before .before .before .before .before .before .before .before .before .before .args .t .now) (c .before .before .before .before .before .before .before .before .before .before .before .shared-slice-known .given)) (c .before .before .before .before .before .before .before .before .before .before .before .before .pre .1 .0 .number) (c .before .before .before .before .before .before .before .wide-size .ensures) (c .before .before .before .before .before .before .wide-size2 .ensures) in ((laid .up, laid .in-tray, laid .in-tray-2), ((omega (arith, c .before .before .before .before .before .before .before .before .before .before .before .before .pre .0 .1, c .before .before .before .before .before .before .before .before .before .before .before .before .pre .1 .0 .room), omega (arith, laid .size, c .before .before .before .before .before .before .before .before .before .before .before .before .pre .1 .1, c .wide-size3 .ensures, c .before .before .before .before .put-head .kept)), c .before .before .before .before .before .before .before .before .before .before .before .before .pre .1 .0 .inside))
+put-body-requires c κs =
+    let back = c .before .before .before .before in
+    let put-head = back .put-head in
+    let back = back .before .before in
+    let wide-size2 = back .wide-size2 in
+    let wide-size = back .before .wide-size in
+    let back = back .before .before .before .before .before in
+    let shared-slice-known = back .shared-slice-known in
+    let args = back .before .args in
+    let pre = back .before .pre in
+    let noted = back .before .pre .1 .0 in
+    let laid =
+    laid-parts (pre .0 .0) (bytes-known (args .t .now) (shared-slice-known .given)) (noted .number) (wide-size .ensures) (wide-size2 .ensures) in (
+      (laid .up, laid .in-tray, laid .in-tray-2),
+      ((omega (arith, pre .0 .1, noted .room), omega (arith, laid .size, pre .1 .1, c .wide-size3 .ensures, put-head .kept)), noted .inside),
+    )
 
 same-length : tie.Need-same-length
 same-length c = search needs
 
 returns : tie.Need-returns
-returns c = let laid = laid-parts (c .before .before .before .before .before .before .before .before .before .before .before .before .before .before .before .pre .0 .0) (bytes-known (c .before .before .before .before .before .before .before .before .before .before .before .before .before .before .before .args .t .now) (c .before .before .before .before .before .before .before .before .before .before .before .before .before .before .shared-slice-known .given)) (c .before .before .before .before .before .before .before .before .before .before .before .before .before .before .before .pre .1 .0 .number) (c .before .before .before .before .before .before .before .before .before .before .wide-size .ensures) (c .before .before .before .before .before .before .before .before .before .wide-size2 .ensures) in let is = c .before .before .before .before .before .before .before .before .before .before .before .before .before .before .before .pre .1 .0 .are (c .before .before .before .before .before .before .before .before .before .before .before .before .before .before .before .pre .0 .1) in tray-put (c .before .before .before .before .before .before .before .before .before .before .before .before .before .before .before .args .t .now) (c .before .before .before .before .before .before .before .before .before .before .before .before .before .before .before .args .out .now) (c .before .before .before .before .before .before .before .before .before .before .before .before .before .before .before .args .a .0) (c .before .before .before .before .before .before .before .before .before .before .before .before .before .before .before .args .b .0) (c .before .before .before .before .before .before .before .before .before .before .before .before .before .before .before .args .n) (c .before .before .before .before .before .before .before .before .before .before .before .before .before .before .before .pre .0 .0 .sound .frame) (bytes-known (c .before .before .before .before .before .before .before .before .before .before .before .before .before .before .before .args .t .now) (c .before .before .before .before .before .before .before .before .before .before .before .before .before .before .shared-slice-known .given)) (c .before .before .before .before .before .before .before .before .before .before .before .before .before .before .before .pre .0 .0 .order) (c .before .before .before .before .before .before .before .before .before .before .before .before .before .before .before .pre .0 .0 .within) (c .before .before .before .before .before .before .before .before .before .before .before .before .before .before .before .pre .1 .0 .number ∙ ap length (sym is)) is (laid .start) (laid .front) (laid .back) (omega (arith, c .before .before .before .wide-size3 .ensures, c .before .before .before .before .before .before .before .before .before .before .before .before .before .before .before .pre .0 .0 .opened .runs)) (c .before .before .before .before .before .before .before .put-head .ensures) (c .before .before .put-body .ensures)
+returns c =
+    let back = c .before .before in
+    let put-body = back .put-body in
+    let wide-size3 = back .before .wide-size3 in
+    let back = back .before .before .before .before .before in
+    let put-head = back .put-head in
+    let back = back .before .before in
+    let wide-size2 = back .wide-size2 in
+    let wide-size = back .before .wide-size in
+    let back = back .before .before .before .before .before in
+    let shared-slice-known = back .shared-slice-known in
+    let args = back .before .args in
+    let pre = back .before .pre in
+    let noted = back .before .pre .1 .0 in
+    let laid =
+    laid-parts (pre .0 .0) (bytes-known (args .t .now) (shared-slice-known .given)) (noted .number) (wide-size .ensures) (wide-size2 .ensures) in
+    let is = noted .are (pre .0 .1) in
+    tray-put
+    (args .t .now)
+    (args .out .now)
+    (args .a .0)
+    (args .b .0)
+    (args .n)
+    (pre .0 .0 .sound .frame)
+    (bytes-known (args .t .now) (shared-slice-known .given))
+    (pre .0 .0 .order)
+    (pre .0 .0 .within)
+    (noted .number ∙ ap length (sym is))
+    is
+    (laid .start)
+    (laid .front)
+    (laid .back)
+    (omega (arith, wide-size3 .ensures, pre .0 .0 .opened .runs))
+    (put-head .ensures)
+    (put-body .ensures)
 
 pub write-tray-spec : {M : Type 1} → statement M
 write-tray-spec =

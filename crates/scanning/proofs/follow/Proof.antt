@@ -15,7 +15,10 @@ abbrev μ-loop : tie.MeasureT-loop
 μ-loop t x h counts starts from to places₀ first first-run last₀ before₀ i₀ places last before i = to - i
 
 loop-holds : tie.Need-loop-holds Inv-loop μ-loop
-loop-holds c = following-starts (c .before .before .before .before .before .pre .1 .1 .0) (c .before .before .before .before .before .pre .1 .0 .1) (c .before .before .before .before .before .pre .0)
+loop-holds c =
+    let pre = c .before .before .before .before .before .pre in
+    let reading = c .before .before .before .before .before .pre .0 in
+    following-starts (pre .1 .1 .0) (pre .1 .0 .1) reading
 
 shared-slice-read-v : tie.Need-shared-slice-read-v Inv-loop μ-loop
 shared-slice-read-v c = omega arith
@@ -27,13 +30,22 @@ only-placeholders-requires : tie.Need-only-placeholders-requires Inv-loop μ-loo
 only-placeholders-requires c κs = omega arith
 
 same-length : tie.Need-same-length Inv-loop μ-loop
-same-length c = c .before .before .before .before .loop .inv .long
+same-length c =
+    let loop = c .before .before .before .before .loop in
+    loop .inv .long
 
 returns : tie.Need-returns Inv-loop μ-loop
-returns c = following-ended (c .before .before .before .before .loop .inv) _ (c .before .before .before .loop-test .taken) (c .before .if1 .taken) (c .only-placeholders .ensures)
+returns c =
+    let if1 = c .before .if1 in
+    let loop-test = c .before .before .before .loop-test in
+    let loop = c .before .before .before .before .loop in
+    following-ended (loop .inv) _ (loop-test .taken) (if1 .taken) (c .only-placeholders .ensures)
 
 step-requires : tie.Need-step-requires Inv-loop μ-loop
-step-requires c κs = (c .before .before .before .before .loop .inv .reading, (c .before .before .before .before .before .before .before .before .before .before .pre .1 .0 .0, c .before .before .before .before .loop .inv .run))
+step-requires c κs =
+    let loop = c .before .before .before .before .loop in
+    let pre = c .before .before .before .before .before .before .before .before .before .before .pre in
+    (loop .inv .reading, (pre .1 .0 .0, loop .inv .run))
 
 add-i : tie.Need-add-i Inv-loop μ-loop
 add-i c = omega arith
@@ -42,21 +54,41 @@ loop-less : tie.Need-loop-less Inv-loop μ-loop
 loop-less c = omega arith
 
 loop-again : tie.Need-loop-again Inv-loop μ-loop
-loop-again c = following-on (c .before .before .before .before .before .before .before .before .loop .inv) _ _ _ (c .before .before .before .before .before .before .before .loop-test .taken) (c .before .before .before .before .before .if1 .left) (c .before .before .before .step .ensures) (c .if2 .taken) (c .before .before .before .step .kept .1 .1 .1 .1 .0)
+loop-again c =
+    let back = c .before .before .before in
+    let step = back .step in
+    let step-places-kept = back .step .kept .1 .1 .1 .1 .0 in
+    let if1 = back .before .before .if1 in
+    let loop-test = back .before .before .before .before .loop-test in
+    let loop = back .before .before .before .before .before .loop in
+    following-on (loop .inv) _ _ _ (loop-test .taken) (if1 .left) (step .ensures) (c .if2 .taken) step-places-kept
 
 same-length-2 : tie.Need-same-length-2 Inv-loop μ-loop
-same-length-2 c = c .before .before .before .step .kept .1 .1 .1 .1 .0 ∙ c .before .before .before .before .before .before .before .before .loop .inv .long
+same-length-2 c =
+    let step-places-kept = c .before .before .before .step .kept .1 .1 .1 .1 .0 in
+    let loop = c .before .before .before .before .before .before .before .before .loop in
+    step-places-kept ∙ loop .inv .long
 
 returns-2 : tie.Need-returns-2 Inv-loop μ-loop
 unfolding trailed
-returns-2 c = following-lost (c .before .before .before .before .before .before .before .before .loop .inv) _ _ _ (c .before .before .before .before .before .before .before .loop-test .taken) (c .before .before .before .before .before .if1 .left) (c .before .before .before .step .ensures) (c .if2 .left)
+returns-2 c =
+    let back = c .before .before .before in
+    let step = back .step in
+    let if1 = back .before .before .if1 in
+    let loop-test = back .before .before .before .before .loop-test in
+    let loop = back .before .before .before .before .before .loop in
+    following-lost (loop .inv) _ _ _ (loop-test .taken) (if1 .left) (step .ensures) (c .if2 .left)
 
 same-length-3 : tie.Need-same-length-3 Inv-loop μ-loop
-same-length-3 c = c .before .loop .inv .long
+same-length-3 c =
+    let loop = c .before .loop in
+    loop .inv .long
 
 returns-3 : tie.Need-returns-3 Inv-loop μ-loop
 unfolding trailed
-returns-3 c = following-end (c .before .loop .inv) (c .loop-test .left)
+returns-3 c =
+    let loop = c .before .loop in
+    following-end (loop .inv) (c .loop-test .left)
 
 pub follow-spec : {M : Type 1} → statement M
 follow-spec =

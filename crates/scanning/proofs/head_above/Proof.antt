@@ -21,13 +21,30 @@ shared-slice-read-if1 : tie.Need-shared-slice-read-if1
 shared-slice-read-if1 c = omega arith
 
 head-of-requires : tie.Need-head-of-requires
-head-of-requires c κs = (c .before .before .before .before .before .before .before .before .pre .0 .at, (c .before .before .before .before .before .before .before .before .pre .1, next-below (c .before .before .before .before .before .before .before .before .pre .0) (c .before .before .before .before .before .before .before .before .pre .1) (c .before .before .before .wide-size .ensures) (c .if1 .taken)))
+head-of-requires c κs =
+    let wide-size = c .before .before .before .wide-size in
+    let back = c .before .before .before .before .before .before .before .before in
+    let pre = back .pre in
+    let reading = back .pre .0 in
+    (reading .at, (pre .1, next-below reading (pre .1) (wide-size .ensures) (c .if1 .taken)))
 
 returns : tie.Need-returns
-returns c = above-has (c .before .before .before .before .before .before .before .before .before .before .pre .0) (c .before .before .before .before .before .before .before .before .before .before .pre .1) (c .before .before .before .before .before .wide-size .ensures) _ (c .before .before .if1 .taken) (c .before .head-of .ensures)
+returns c =
+    let head-of = c .before .head-of in
+    let if1 = c .before .before .if1 in
+    let back = c .before .before .before .before .before in
+    let wide-size = back .wide-size in
+    let pre = back .before .before .before .before .before .pre in
+    let reading = back .before .before .before .before .before .pre .0 in
+    above-has reading (pre .1) (wide-size .ensures) _ (if1 .taken) (head-of .ensures)
 
 returns-2 : tie.Need-returns-2
-returns-2 c = above-none (c .before .before .before .before .before .before .before .before .pre .0) (c .before .before .before .before .before .before .before .before .pre .1) (c .before .before .before .wide-size .ensures) _ (c .if1 .left)
+returns-2 c =
+    let wide-size = c .before .before .before .wide-size in
+    let back = c .before .before .before .before .before .before .before .before in
+    let pre = back .pre in
+    let reading = back .pre .0 in
+    above-none reading (pre .1) (wide-size .ensures) _ (c .if1 .left)
 
 pub head-above-spec : {M : Type 1} → statement M
 head-above-spec =

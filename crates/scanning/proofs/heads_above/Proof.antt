@@ -20,19 +20,31 @@ sub-r : tie.Need-sub-r Inv-loop μ-loop
 sub-r c = omega arith
 
 head-above-requires : tie.Need-head-above-requires Inv-loop μ-loop
-head-above-requires c κs = (c .before .before .before .before .before .before .pre .0, omega arith)
+head-above-requires c κs =
+    let reading = c .before .before .before .before .before .before .pre .0 in
+    (reading, omega arith)
 
 loop-less : tie.Need-loop-less Inv-loop μ-loop
 loop-less c = omega arith
 
 loop-again : tie.Need-loop-again Inv-loop μ-loop
-loop-again c = (omega arith, sym (heads-next _ _ _ (c .before .before .loop-test .taken) refl (c .before .head-above .ensures) (c .if1 .taken)) ∙ c .before .before .before .loop .inv .1)
+loop-again c =
+    let head-above = c .before .head-above in
+    let loop-test = c .before .before .loop-test in
+    let loop = c .before .before .before .loop in
+    (omega arith, sym (heads-next _ _ _ (loop-test .taken) refl (head-above .ensures) (c .if1 .taken)) ∙ loop .inv .1)
 
 returns : tie.Need-returns Inv-loop μ-loop
-returns c = sym (heads-stop _ _ _ (c .before .before .loop-test .taken) refl (c .before .head-above .ensures) (c .if1 .left)) ∙ c .before .before .before .loop .inv .1
+returns c =
+    let head-above = c .before .head-above in
+    let loop-test = c .before .before .loop-test in
+    let loop = c .before .before .before .loop in
+    sym (heads-stop _ _ _ (loop-test .taken) refl (head-above .ensures) (c .if1 .left)) ∙ loop .inv .1
 
 returns-2 : tie.Need-returns-2 Inv-loop μ-loop
-returns-2 c = heads-end _ _ _ (c .loop-test .left) ∙ c .before .loop .inv .1
+returns-2 c =
+    let loop = c .before .loop in
+    heads-end _ _ _ (c .loop-test .left) ∙ loop .inv .1
 
 pub heads-above-spec : {M : Type 1} → statement M
 heads-above-spec =

@@ -26,13 +26,21 @@ loop-less : tie.Need-loop-less Inv-loop μ-loop
 loop-less c = omega arith
 
 loop-again : tie.Need-loop-again Inv-loop μ-loop
-loop-again c = (omega arith, omega arith, sym (only-next _ (c .before .before .loop-test .taken) (c .if1 .taken)) ∙ c .before .before .before .loop .inv .2)
+loop-again c =
+    let loop-test = c .before .before .loop-test in
+    let loop = c .before .before .before .loop in
+    (omega arith, omega arith, sym (only-next _ (loop-test .taken) (c .if1 .taken)) ∙ loop .inv .2)
 
 returns : tie.Need-returns Inv-loop μ-loop
-returns c = sym (only-stop _ (c .before .before .loop-test .taken) (c .if1 .left)) ∙ c .before .before .before .loop .inv .2
+returns c =
+    let loop-test = c .before .before .loop-test in
+    let loop = c .before .before .before .loop in
+    sym (only-stop _ (loop-test .taken) (c .if1 .left)) ∙ loop .inv .2
 
 returns-2 : tie.Need-returns-2 Inv-loop μ-loop
-returns-2 c = only-end _ (c .loop-test .left) ∙ c .before .loop .inv .2
+returns-2 c =
+    let loop = c .before .loop in
+    only-end _ (c .loop-test .left) ∙ loop .inv .2
 
 pub only-placeholders-spec : {M : Type 1} → statement M
 only-placeholders-spec =

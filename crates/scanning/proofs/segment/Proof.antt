@@ -32,20 +32,34 @@ big8-requires : tie.Need-big8-requires
 big8-requires c κs = omega arith
 
 selectors-requires : tie.Need-selectors-requires
-selectors-requires c κs = (c .before .before .before .before .before .before .before .before .before .before .before .before .pre .0, (c .before .before .before .before .before .before .before .before .before .before .before .before .pre .1 .0 .0, omega arith))
+selectors-requires c κs =
+    let back = c .before .before .before .before .before .before .before .before .before .before .before .before in
+    let pre = back .pre in
+    let reading = back .pre .0 in
+    (reading, (pre .1 .0 .0, omega arith))
 
 same-length : tie.Need-same-length
-same-length c = c .before .before .selectors .kept .1 .1 .1 .1 .1 .1 .1 .1 .0
+same-length c =
+    let selectors-places-kept = c .before .before .selectors .kept .1 .1 .1 .1 .1 .1 .1 .1 .0 in
+    selectors-places-kept
 
 returns : tie.Need-returns
-returns c = segment-scanned _ _ _ _ _ _ _ _ _ (c .before .before .before .before .before .before .before .before .offsets-hold .ensures) (c .before .before .before .before .before .before .before .if1 .taken) (c .before .before .before .before .big8 .ensures) (omega arith) (omega arith) (c .before .before .selectors .ensures)
+returns c =
+    let selectors = c .before .before .selectors in
+    let back = c .before .before .before .before in
+    let big8 = back .big8 in
+    let if1 = back .before .before .before .if1 in
+    let offsets-hold = back .before .before .before .before .offsets-hold in
+    segment-scanned _ _ _ _ _ _ _ _ _ (offsets-hold .ensures) (if1 .taken) (big8 .ensures) (omega arith) (omega arith) (selectors .ensures)
 
 same-length-2 : tie.Need-same-length-2
 same-length-2 c = refl
 
 returns-2 : tie.Need-returns-2
 unfolding told
-returns-2 c = segment-offsets _ _ _ _ _ _ (c .before .offsets-hold .ensures) (c .if1 .left)
+returns-2 c =
+    let offsets-hold = c .before .offsets-hold in
+    segment-offsets _ _ _ _ _ _ (offsets-hold .ensures) (c .if1 .left)
 
 pub segment-spec : {M : Type 1} → statement M
 segment-spec =

@@ -23,13 +23,19 @@ shared-slice-read-if2 : tie.Need-shared-slice-read-if2
 shared-slice-read-if2 c = omega arith
 
 head-of-requires : tie.Need-head-of-requires
-head-of-requires c κs = (c .before .before .before .before .before .before .before .before .before .pre .0 .at, (omega arith, next-below (c .before .before .before .before .before .before .before .before .before .pre .0) (omega arith) (c .before .before .before .wide-size .ensures) (c .if2 .taken)))
+head-of-requires c κs =
+    let wide-size = c .before .before .before .wide-size in
+    let reading = c .before .before .before .before .before .before .before .before .before .pre .0 in
+    (reading .at, (omega arith, next-below reading (omega arith) (wide-size .ensures) (c .if2 .taken)))
 
 may-follow-requires : tie.Need-may-follow-requires
 may-follow-requires c κs = omega arith
 
 add-places : tie.Need-add-places
-add-places c = omega (arith, c .before .before .before .before .shared-slice-known4 .given (c .before .before .before .before .before .before .wide-size .result))
+add-places c =
+    let shared-slice-known4 = c .before .before .before .before .shared-slice-known4 in
+    let wide-size = c .before .before .before .before .before .before .wide-size in
+    omega (arith, shared-slice-known4 .given (wide-size .result))
 
 mul-places : tie.Need-mul-places
 mul-places c = omega arith
@@ -42,15 +48,41 @@ same-length c = simp length-set
 
 returns : tie.Need-returns
 unfolding trailed
-returns c = step-is _ (c .before .before .before .before .before .before .before .before .before .before .before .before .pre .0) (c .before .before .before .before .before .before .before .before .before .before .before .before .pre .1 .0) (c .before .before .before .before .before .before .before .if1 .taken) (c .before .before .before .before .before .before .wide-size .ensures) (c .before .before .before .if2 .taken) (c .before .before .head-of .ensures) _ _ (c .before .may-follow .ensures) (c .if3 .taken)
+returns c =
+    let may-follow = c .before .may-follow in
+    let back = c .before .before in
+    let head-of = back .head-of in
+    let if2 = back .before .if2 in
+    let back = back .before .before .before .before in
+    let wide-size = back .wide-size in
+    let if1 = back .before .if1 in
+    let pre = back .before .before .before .before .before .before .pre in
+    let reading = back .before .before .before .before .before .before .pre .0 in
+    step-is _ reading (pre .1 .0) (if1 .taken) (wide-size .ensures) (if2 .taken) (head-of .ensures) _ _ (may-follow .ensures) (c .if3 .taken)
 
 returns-2 : tie.Need-returns-2
 unfolding trailed
-returns-2 c = step-not _ (c .before .before .before .before .before .before .before .before .before .before .before .before .pre .0) (c .before .before .before .before .before .before .before .before .before .before .before .before .pre .1 .0) (c .before .before .before .before .before .before .before .if1 .taken) (c .before .before .before .before .before .before .wide-size .ensures) (c .before .before .before .if2 .taken) (c .before .before .head-of .ensures) _ _ (c .before .may-follow .ensures) (c .if3 .left)
+returns-2 c =
+    let may-follow = c .before .may-follow in
+    let back = c .before .before in
+    let head-of = back .head-of in
+    let if2 = back .before .if2 in
+    let back = back .before .before .before .before in
+    let wide-size = back .wide-size in
+    let if1 = back .before .if1 in
+    let pre = back .before .before .before .before .before .before .pre in
+    let reading = back .before .before .before .before .before .before .pre .0 in
+    step-not _ reading (pre .1 .0) (if1 .taken) (wide-size .ensures) (if2 .taken) (head-of .ensures) _ _ (may-follow .ensures) (c .if3 .left)
 
 returns-3 : tie.Need-returns-3
 unfolding trailed
-returns-3 c = step-end _ (c .before .before .before .before .before .before .before .before .before .pre .0) (c .before .before .before .before .before .before .before .before .before .pre .1 .0) (c .before .before .before .before .if1 .taken) (c .before .before .before .wide-size .ensures) _ _ (c .if2 .left)
+returns-3 c =
+    let back = c .before .before .before in
+    let wide-size = back .wide-size in
+    let if1 = back .before .if1 in
+    let pre = back .before .before .before .before .before .before .pre in
+    let reading = back .before .before .before .before .before .before .pre .0 in
+    step-end _ reading (pre .1 .0) (if1 .taken) (wide-size .ensures) _ _ (c .if2 .left)
 
 returns-4 : tie.Need-returns-4
 unfolding trailed

@@ -38,13 +38,21 @@ loop-less : tie.Need-loop-less Inv-loop μ-loop
 loop-less c = omega arith
 
 loop-again : tie.Need-loop-again Inv-loop μ-loop
-loop-again c = (omega arith, sym (same-next _ _ (c .before .before .before .loop-test .taken) refl (c .if1 .taken)) ∙ c .before .before .before .before .loop .inv .1)
+loop-again c =
+    let loop-test = c .before .before .before .loop-test in
+    let loop = c .before .before .before .before .loop in
+    (omega arith, sym (same-next _ _ (loop-test .taken) refl (c .if1 .taken)) ∙ loop .inv .1)
 
 returns : tie.Need-returns Inv-loop μ-loop
-returns c = sym (same-stop _ _ (c .before .before .before .loop-test .taken) refl (c .if1 .left)) ∙ c .before .before .before .before .loop .inv .1
+returns c =
+    let loop-test = c .before .before .before .loop-test in
+    let loop = c .before .before .before .before .loop in
+    sym (same-stop _ _ (loop-test .taken) refl (c .if1 .left)) ∙ loop .inv .1
 
 returns-2 : tie.Need-returns-2 Inv-loop μ-loop
-returns-2 c = same-end _ _ (c .loop-test .left) ∙ c .before .loop .inv .1
+returns-2 c =
+    let loop = c .before .loop in
+    same-end _ _ (c .loop-test .left) ∙ loop .inv .1
 
 pub used-up-spec : {M : Type 1} → statement M
 used-up-spec =

@@ -11,19 +11,29 @@ use Rattle.seeking.proofs.seek_from.Reads as seek-from-reads
 
 -- src/calls.rt:82:9
 start-at-requires : tie.Need-start-at-requires
-start-at-requires c κs = walking (c .before .before .before .before .pre .0) (c .before .before .before .before .pre .1) .index
+start-at-requires c κs =
+    let opened = c .before .before .before .before .pre .0 in
+    let laid = c .before .before .before .before .pre .1 in
+    walking opened laid .index
 
 -- src/calls.rt:83:40
 slice-aggregate-seek-from : tie.Need-slice-aggregate-seek-from
-slice-aggregate-seek-from c = sym (c .before .before .before .before .before .before .pre .0 .room)
+slice-aggregate-seek-from c =
+    let opened = c .before .before .before .before .before .before .pre .0 in
+    sym (opened .room)
 
 -- src/calls.rt:83:49
 slice-aggregate-seek-from-2 : tie.Need-slice-aggregate-seek-from-2
-slice-aggregate-seek-from-2 c = sym (c .before .before .before .before .before .before .before .pre .0 .at .room)
+slice-aggregate-seek-from-2 c =
+    let opened = c .before .before .before .before .before .before .before .pre .0 in
+    sym (opened .at .room)
 
 -- src/calls.rt:83:15
 seek-from-requires : tie.Need-seek-from-requires
-seek-from-requires c κs = (walking (c .before .before .before .before .before .before .before .pre .0) (c .before .before .before .before .before .before .before .pre .1), c .before .before .before .before .before .before .before .pre .0 .at)
+seek-from-requires c κs =
+    let opened = c .before .before .before .before .before .before .before .pre .0 in
+    let laid = c .before .before .before .before .before .before .before .pre .1 in
+    (walking opened laid, opened .at)
 
 -- src/calls.rt:83:5
 told-seek-requires : tie.Need-told-seek-requires
@@ -31,7 +41,13 @@ told-seek-requires c κs = search needs
 
 -- src/calls.rt:74:1
 returns : tie.Need-returns
-returns c = told-is _ _ _ _ (walking (c .before .before .before .before .before .before .before .before .before .pre .0) (c .before .before .before .before .before .before .before .before .before .pre .1)) (c .before .before .before .before .start-at .ensures) (c .before .seek-from .ensures) (c .told-seek .ensures)
+returns c =
+    let seek-from = c .before .seek-from in
+    let back = c .before .before .before .before in
+    let start-at = back .start-at in
+    let opened = back .before .before .before .before .before .pre .0 in
+    let laid = back .before .before .before .before .before .pre .1 in
+    told-is _ _ _ _ (walking opened laid) (start-at .ensures) (seek-from .ensures) (c .told-seek .ensures)
 
 pub seek-framed-spec : {M : Type 1} → statement M
 seek-framed-spec =

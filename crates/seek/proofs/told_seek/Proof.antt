@@ -25,15 +25,23 @@ seek-refused-requires c κs = search needs
 
 -- src/calls.rt:49:1
 returns : tie.Need-returns
-returns c = ap (λ a. toldAs (c .before .before .before .before .args .n) a (c .before .before .before .before .args .s .cursor)) (sym (c .before .before .sight .given .1))
+returns c =
+    let sight = c .before .before .sight in
+    let args = c .before .before .before .before .args in
+    ap (λ a. toldAs (args .n) a (args .s .cursor)) (sym (sight .given .1))
 
 -- src/calls.rt:49:1
 returns-2 : tie.Need-returns-2
-returns-2 c = ap (λ a. toldAs (c .before .before .args .n) a (c .before .before .args .s .cursor)) (sym (c .enum-told .given .1))
+returns-2 c =
+    let args = c .before .before .args in
+    ap (λ a. toldAs (args .n) a (args .s .cursor)) (sym (c .enum-told .given .1))
 
 -- src/calls.rt:49:1
 returns-3 : tie.Need-returns-3
-returns-3 c = c .seek-refused .ensures ∙ ap (λ a. toldAs (c .before .before .before .before .args .n) a (c .before .before .before .before .args .s .cursor)) (sym (c .before .before .sight2 .given .1))
+returns-3 c =
+    let sight2 = c .before .before .sight2 in
+    let args = c .before .before .before .before .args in
+    c .seek-refused .ensures ∙ ap (λ a. toldAs (args .n) a (args .s .cursor)) (sym (sight2 .given .1))
 
 pub told-seek-spec : {M : Type 1} → statement M
 told-seek-spec =

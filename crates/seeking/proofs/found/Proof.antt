@@ -18,7 +18,10 @@ array-copy-out-t11 c = omega arith
 
 returns : tie.Need-returns
 unfolding soughtOf soughtAs spotOf sightAt
-returns c = ap (sightAt (c .before .before .args .g) (c .before .before .args .s) (c .before .before .args .t3) (c .before .before .args .v)) (c .before .wide-size .ensures)
+returns c =
+    let wide-size = c .before .wide-size in
+    let args = c .before .before .args in
+    ap (sightAt (args .g) (args .s) (args .t3) (args .v)) (wide-size .ensures)
 
 pub found-spec : {M : Type 1} → statement M
 found-spec = tie.close (tie.spec wide-size-requires mul-t8 array-copy-out-t11 returns)

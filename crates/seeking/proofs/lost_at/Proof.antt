@@ -14,7 +14,9 @@ no-cursor-requires c κs = search needs
 
 returns : tie.Need-returns
 unfolding soughtOf soughtAs
-returns c = ap (lostAt _) (c .before .wide32 .ensures)
+returns c =
+    let wide32 = c .before .wide32 in
+    ap (lostAt _) (wide32 .ensures)
 
 pub lost-at-spec : {M : Type 1} → statement M
 lost-at-spec = tie.close (tie.spec wide32-requires no-cursor-requires returns)

@@ -33,10 +33,17 @@ segment-at-requires : tie.Need-segment-at-requires Inv-loop μ-loop Inv-walk μ-
 segment-at-requires c κs = search needs
 
 load-requires : tie.Need-load-requires Inv-loop μ-loop Inv-walk μ-walk
-load-requires c κs = (omega (arith, within (c .before .before .before .before .before .before .before .pre .0) (c .before .if1 .left) (c .segment-at .ensures)), c .before .before .before .before .before .before .before .pre .0 .few)
+load-requires c κs =
+    let if1 = c .before .if1 in
+    let walking = c .before .before .before .before .before .before .before .pre .0 in
+    (omega (arith, within walking (if1 .left) (c .segment-at .ensures)), walking .few)
 
 add-first : tie.Need-add-first Inv-loop μ-loop Inv-walk μ-walk
-add-first c = omega (arith, within (c .before .before .before .before .before .before .before .before .pre .0) (c .before .before .if1 .left) (c .before .segment-at .ensures))
+add-first c =
+    let segment-at = c .before .segment-at in
+    let if1 = c .before .before .if1 in
+    let walking = c .before .before .before .before .before .before .before .before .pre .0 in
+    omega (arith, within walking (if1 .left) (segment-at .ensures))
 
 wide-size-requires : tie.Need-wide-size-requires Inv-loop μ-loop Inv-walk μ-walk
 wide-size-requires c κs = search needs
@@ -45,19 +52,41 @@ mul-first : tie.Need-mul-first Inv-loop μ-loop Inv-walk μ-walk
 mul-first c = omega arith
 
 add-first-2 : tie.Need-add-first-2 Inv-loop μ-loop Inv-walk μ-walk
-add-first-2 c = omega (arith, within (c .before .before .before .before .before .before .before .before .before .pre .0) (c .before .before .before .if1 .left) (c .before .before .segment-at .ensures), c .wide-size .ensures)
+add-first-2 c =
+    let segment-at = c .before .before .segment-at in
+    let if1 = c .before .before .before .if1 in
+    let walking = c .before .before .before .before .before .before .before .before .before .pre .0 in
+    omega (arith, within walking (if1 .left) (segment-at .ensures), c .wide-size .ensures)
 
 loop-holds : tie.Need-loop-holds Inv-loop μ-loop Inv-walk μ-walk
-loop-holds c = here-first (c .before .before .before .before .before .before .before .before .before .pre .0) (c .before .before .before .if1 .left) (c .before .before .segment-at .ensures) (c .before .load .ensures)
+loop-holds c =
+    let load = c .before .load in
+    let segment-at = c .before .before .segment-at in
+    let if1 = c .before .before .before .if1 in
+    let walking = c .before .before .before .before .before .before .before .before .before .pre .0 in
+    here-first walking (if1 .left) (segment-at .ensures) (load .ensures)
 
 wide-size-requires-2 : tie.Need-wide-size-requires-2 Inv-loop μ-loop Inv-walk μ-walk
 wide-size-requires-2 c κs = search needs
 
 add-v : tie.Need-add-v Inv-loop μ-loop Inv-walk μ-walk
-add-v c = omega (arith, within (c .before .before .before .before .before .before .before .before .before .before .before .before .pre .0) (c .before .before .before .before .before .before .if1 .left) (c .before .before .before .before .before .segment-at .ensures), c .before .before .before .wide-size .ensures, c .wide-size2 .ensures)
+add-v c =
+    let back = c .before .before .before in
+    let wide-size = back .wide-size in
+    let segment-at = back .before .before .segment-at in
+    let if1 = back .before .before .before .if1 in
+    let walking = back .before .before .before .before .before .before .before .before .before .pre .0 in
+    omega (arith, within walking (if1 .left) (segment-at .ensures), wide-size .ensures, c .wide-size2 .ensures)
 
 shared-slice-read-v : tie.Need-shared-slice-read-v Inv-loop μ-loop Inv-walk μ-walk
-shared-slice-read-v c = omega (arith, within (c .before .before .before .before .before .before .before .before .before .before .before .before .before .pre .0) (c .before .before .before .before .before .before .before .if1 .left) (c .before .before .before .before .before .before .segment-at .ensures), c .before .before .before .before .wide-size .ensures, c .before .wide-size2 .ensures)
+shared-slice-read-v c =
+    let wide-size2 = c .before .wide-size2 in
+    let back = c .before .before .before .before in
+    let wide-size = back .wide-size in
+    let segment-at = back .before .before .segment-at in
+    let if1 = back .before .before .before .if1 in
+    let walking = back .before .before .before .before .before .before .before .before .before .pre .0 in
+    omega (arith, within walking (if1 .left) (segment-at .ensures), wide-size .ensures, wide-size2 .ensures)
 
 add-s : tie.Need-add-s Inv-loop μ-loop Inv-walk μ-walk
 add-s c = omega arith
@@ -66,7 +95,22 @@ loop-less : tie.Need-loop-less Inv-loop μ-loop Inv-walk μ-walk
 loop-less c = omega arith
 
 loop-again : tie.Need-loop-again Inv-loop μ-loop Inv-walk μ-walk
-loop-again c = record { room = c .before .before .before .before .loop .inv .room; on = selectors-pass (c .before .before .before .before .loop .inv .on) (c .before .before .before .loop-test .taken) (selector-is (c .before .before .before .before .before .before .before .before .before .before .before .before .before .before .pre .0) _ _ (c .before .before .before .before .before .before .before .segment-at .ensures) (omega (arith, c .before .before .before .before .before .wide-size .ensures)) (c .before .before .wide-size2 .ensures)) (c .if2 .taken) }
+loop-again c =
+    let back = c .before .before in
+    let wide-size2 = back .wide-size2 in
+    let loop-test = back .before .loop-test in
+    let loop = back .before .before .loop in
+    let wide-size = back .before .before .before .wide-size in
+    let segment-at = back .before .before .before .before .before .segment-at in
+    let walking = back .before .before .before .before .before .before .before .before .before .before .before .before .pre .0 in
+    record {
+      room = loop .inv .room;
+      on = selectors-pass
+          (loop .inv .on)
+          (loop-test .taken)
+          (selector-is walking _ _ (segment-at .ensures) (omega (arith, wide-size .ensures)) (wide-size2 .ensures))
+          (c .if2 .taken);
+    }
 
 wide-size-requires-3 : tie.Need-wide-size-requires-3 Inv-loop μ-loop Inv-walk μ-walk
 wide-size-requires-3 c κs = search needs
@@ -75,28 +119,70 @@ mul-p : tie.Need-mul-p Inv-loop μ-loop Inv-walk μ-walk
 mul-p c = omega arith
 
 array-copy-out-p : tie.Need-array-copy-out-p Inv-loop μ-loop Inv-walk μ-walk
-array-copy-out-p c = omega (arith, c .before .before .before .before .before .before .loop .inv .room, c .before .before .before .before .before .before .before .before .before .before .before .before .before .before .before .before .pre .0 .few, c .wide-size3 .ensures)
+array-copy-out-p c =
+    let loop = c .before .before .before .before .before .before .loop in
+    let walking =
+    c .before .before .before .before .before .before .before .before .before .before .before .before .before .before .before .before .pre .0 in
+    omega (arith, loop .inv .room, walking .few, c .wide-size3 .ensures)
 
 mul-if4 : tie.Need-mul-if4 Inv-loop μ-loop Inv-walk μ-walk
 mul-if4 c = omega arith
 
 shared-slice-read-if4 : tie.Need-shared-slice-read-if4 Inv-loop μ-loop Inv-walk μ-walk
-shared-slice-read-if4 c = omega (arith, c .before .before .before .before .before .before .before .before .before .before .before .before .before .before .before .before .before .before .pre .0 .room, c .before .before .before .before .before .before .before .before .before .before .before .before .before .before .before .before .before .before .pre .0 .few, c .before .before .wide-size3 .ensures)
+shared-slice-read-if4 c =
+    let wide-size3 = c .before .before .wide-size3 in
+    let walking =
+    c .before .before .before .before .before .before .before .before .before .before .before .before .before .before .before .before .before .before
+    .pre .0 in
+    omega (arith, walking .room, walking .few, wide-size3 .ensures)
 
 stays-requires : tie.Need-stays-requires Inv-loop μ-loop Inv-walk μ-walk
-stays-requires c κs = (c .before .before .before .before .before .before .before .before .before .before .before .before .before .before .before .before .before .before .before .pre .1, (stays-run (c .before .before .before .before .before .before .before .before .before .before .before .before .before .before .before .before .before .before .before .pre .0) _ (c .before .before .before .before .before .before .before .before .before .loop .places) (c .before .before .before .before .if3 .taken) (c .before .before .before .wide-size3 .ensures), stays-place (c .before .before .before .before .before .before .before .before .before .before .before .before .before .before .before .before .before .before .before .pre .0) _ (c .before .before .before .before .before .before .before .before .before .loop .places) (c .before .before .before .before .if3 .taken) (c .before .before .before .wide-size3 .ensures) (c .if4 .taken)))
+stays-requires c κs =
+    let back = c .before .before .before in
+    let wide-size3 = back .wide-size3 in
+    let if3 = back .before .if3 in
+    let back = back .before .before .before .before .before .before in
+    let loop = back .loop in
+    let back = back .before .before .before .before .before .before .before .before .before .before in
+    let walking = back .pre .0 in
+    let starts = back .pre .1 in (
+      starts,
+      (
+        stays-run walking _ (loop .places) (if3 .taken) (wide-size3 .ensures),
+        stays-place walking _ (loop .places) (if3 .taken) (wide-size3 .ensures) (c .if4 .taken),
+      ),
+    )
 
 found-requires : tie.Need-found-requires Inv-loop μ-loop Inv-walk μ-walk
-found-requires c κs = stay-low (c .before .before .before .before .before .before .before .before .before .before .before .before .before .before .before .before .before .before .before .before .before .pre .0) _ (c .before .before .before .before .before .before .before .before .before .before .before .loop .places) (c .before .before .before .before .before .before .if3 .taken) (c .before .before .before .before .before .wide-size3 .ensures) _ (c .before .before .before .before .before .before .before .before .before .before .before .before .before .before .before .before .walk .g) (c .before .before .before .before .before .before .before .before .before .before .before .loop .s) (c .before .stays .ensures) (c .if5 .taken)
+found-requires c κs =
+    let stays = c .before .stays in
+    let back = c .before .before .before .before .before in
+    let wide-size3 = back .wide-size3 in
+    let if3 = back .before .if3 in
+    let back = back .before .before .before .before .before .before in
+    let loop = back .loop in
+    let walk = back .before .before .before .before .before .walk in
+    let walking = back .before .before .before .before .before .before .before .before .before .before .pre .0 in
+    stay-low walking _ (loop .places) (if3 .taken) (wide-size3 .ensures) _ (walk .g) (loop .s) (stays .ensures) (c .if5 .taken)
 
 add-t41 : tie.Need-add-t41 Inv-loop μ-loop Inv-walk μ-walk
-add-t41 c = omega (arith, c .before .before .before .shared-slice-known6 .given (c .before .before .before .before .before .wide-size3 .result), c .before .before .if4 .taken)
+add-t41 c =
+    let if4 = c .before .before .if4 in
+    let shared-slice-known6 = c .before .before .before .shared-slice-known6 in
+    let wide-size3 = c .before .before .before .before .before .wide-size3 in
+    omega (arith, shared-slice-known6 .given (wide-size3 .result), if4 .taken)
 
 mul-places : tie.Need-mul-places Inv-loop μ-loop Inv-walk μ-walk
 mul-places c = omega arith
 
 array-set-from-places : tie.Need-array-set-from-places Inv-loop μ-loop Inv-walk μ-walk
-array-set-from-places c = omega (arith, c .before .before .before .before .before .before .before .before .before .before .before .loop .inv .room, c .before .before .before .before .before .before .before .before .before .before .before .before .before .before .before .before .before .before .before .before .before .pre .0 .few, c .before .before .before .before .before .wide-size3 .ensures)
+array-set-from-places c =
+    let back = c .before .before .before .before .before in
+    let wide-size3 = back .wide-size3 in
+    let loop = back .before .before .before .before .before .before .loop in
+    let walking =
+    back .before .before .before .before .before .before .before .before .before .before .before .before .before .before .before .before .pre .0 in
+    omega (arith, loop .inv .room, walking .few, wide-size3 .ensures)
 
 add-s-2 : tie.Need-add-s-2 Inv-loop μ-loop Inv-walk μ-walk
 add-s-2 c = omega arith
@@ -105,7 +191,34 @@ loop-less-2 : tie.Need-loop-less-2 Inv-loop μ-loop Inv-walk μ-walk
 loop-less-2 c = omega arith
 
 loop-again-2 : tie.Need-loop-again-2 Inv-loop μ-loop Inv-walk μ-walk
-loop-again-2 c = record { room = simp length-set (c .before .before .before .before .before .before .before .before .before .before .before .loop .inv .room); on = selectors-go (c .before .before .before .before .before .before .before .before .before .before .before .loop .inv .on) (c .before .before .before .before .before .before .before .before .before .before .loop-test .taken) (selector-is (c .before .before .before .before .before .before .before .before .before .before .before .before .before .before .before .before .before .before .before .before .before .pre .0) _ _ (c .before .before .before .before .before .before .before .before .before .before .before .before .before .before .segment-at .ensures) (omega (arith, c .before .before .before .before .before .before .before .before .before .before .before .before .wide-size .ensures)) (c .before .before .before .before .before .before .before .before .before .wide-size2 .ensures)) (c .before .before .before .before .before .before .before .if2 .left) (named-yes (c .before .before .before .before .before .before .before .before .before .before .before .before .before .before .before .before .before .before .before .before .before .pre .0) _ _ (c .before .before .before .before .before .before .if3 .taken) (c .before .before .before .before .before .wide-size3 .ensures) (c .before .before .if4 .taken)) (visit-go (c .before .before .before .before .before .before .before .before .before .before .before .before .before .before .before .before .before .before .before .before .before .pre .0) _ (c .before .before .before .before .before .before .before .before .before .before .before .loop .places) (c .before .before .before .before .before .before .if3 .taken) (c .before .before .before .before .before .wide-size3 .ensures) _ _ _ (c .before .stays .ensures) (c .if5 .left)) (raise-numbers (c .before .before .before .before .before .before .before .before .before .before .before .loop .places) (c .before .before .before .before .before .wide-size3 .ensures)) }
+loop-again-2 c =
+    let back = c .before in
+    let stays = back .stays in
+    let back = back .before in
+    let if4 = back .if4 in
+    let back = back .before .before .before in
+    let wide-size3 = back .wide-size3 in
+    let if3 = back .before .if3 in
+    let back = back .before .before in
+    let if2 = back .if2 in
+    let back = back .before .before in
+    let wide-size2 = back .wide-size2 in
+    let loop-test = back .before .loop-test in
+    let loop = back .before .before .loop in
+    let wide-size = back .before .before .before .wide-size in
+    let segment-at = back .before .before .before .before .before .segment-at in
+    let walking = back .before .before .before .before .before .before .before .before .before .before .before .before .pre .0 in
+    record {
+      room = simp length-set (loop .inv .room);
+      on = selectors-go
+          (loop .inv .on)
+          (loop-test .taken)
+          (selector-is walking _ _ (segment-at .ensures) (omega (arith, wide-size .ensures)) (wide-size2 .ensures))
+          (if2 .left)
+          (named-yes walking _ _ (if3 .taken) (wide-size3 .ensures) (if4 .taken))
+          (visit-go walking _ (loop .places) (if3 .taken) (wide-size3 .ensures) _ _ _ (stays .ensures) (c .if5 .left))
+          (raise-numbers (loop .places) (wide-size3 .ensures));
+    }
 
 lost-at-requires : tie.Need-lost-at-requires Inv-loop μ-loop Inv-walk μ-walk
 lost-at-requires c κs = search needs
@@ -120,19 +233,99 @@ walk-less : tie.Need-walk-less Inv-loop μ-loop Inv-walk μ-walk
 walk-less c = omega arith
 
 walk-again : tie.Need-walk-again Inv-loop μ-loop Inv-walk μ-walk
-walk-again c = record { same = selectors-end (c .before .loop .inv .on) (c .loop-test .left) .same ∙ c .before .before .before .before .before .before .walk .inv .same }
+walk-again c =
+    let loop = c .before .loop in
+    let walk = c .before .before .before .before .before .before .walk in
+    record { same = selectors-end (loop .inv .on) (c .loop-test .left) .same ∙ walk .inv .same }
 
 returns : tie.Need-returns Inv-loop μ-loop Inv-walk μ-walk
-returns c = c .at-end .ensures ∙ segments-end (c .before .before .walk .inv) (c .before .if1 .taken)
+returns c =
+    let if1 = c .before .if1 in
+    let walk = c .before .before .walk in
+    c .at-end .ensures ∙ segments-end (walk .inv) (if1 .taken)
 
 returns-2 : tie.Need-returns-2 Inv-loop μ-loop Inv-walk μ-walk
-returns-2 c = c .found .ensures ∙ sight-is (c .before .before .before .before .before .before .before .before .before .before .before .before .before .before .before .before .before .before .before .before .before .before .pre .0) _ (c .before .before .before .before .before .before .before .before .before .before .before .before .loop .places) (c .before .before .before .before .before .before .before .if3 .taken) (c .before .before .before .before .before .before .wide-size3 .ensures) _ _ _ (c .before .before .stays .ensures) (c .before .if5 .taken) ∙ selectors-stay (c .before .before .before .before .before .before .before .before .before .before .before .before .loop .inv .on) (c .before .before .before .before .before .before .before .before .before .before .before .loop-test .taken) (selector-is (c .before .before .before .before .before .before .before .before .before .before .before .before .before .before .before .before .before .before .before .before .before .before .pre .0) _ _ (c .before .before .before .before .before .before .before .before .before .before .before .before .before .before .before .segment-at .ensures) (omega (arith, c .before .before .before .before .before .before .before .before .before .before .before .before .before .wide-size .ensures)) (c .before .before .before .before .before .before .before .before .before .before .wide-size2 .ensures)) (c .before .before .before .before .before .before .before .before .if2 .left) (named-yes (c .before .before .before .before .before .before .before .before .before .before .before .before .before .before .before .before .before .before .before .before .before .before .pre .0) _ _ (c .before .before .before .before .before .before .before .if3 .taken) (c .before .before .before .before .before .before .wide-size3 .ensures) (c .before .before .before .if4 .taken)) (visit-stay (c .before .before .before .before .before .before .before .before .before .before .before .before .before .before .before .before .before .before .before .before .before .before .pre .0) _ (c .before .before .before .before .before .before .before .before .before .before .before .before .loop .places) (c .before .before .before .before .before .before .before .if3 .taken) (c .before .before .before .before .before .before .wide-size3 .ensures) _ _ _ (c .before .before .stays .ensures) (c .before .if5 .taken)) ∙ c .before .before .before .before .before .before .before .before .before .before .before .before .before .before .before .before .before .walk .inv .same
+returns-2 c =
+    let back = c .before in
+    let if5 = back .if5 in
+    let back = back .before in
+    let stays = back .stays in
+    let back = back .before in
+    let if4 = back .if4 in
+    let back = back .before .before .before in
+    let wide-size3 = back .wide-size3 in
+    let back = back .before in
+    let if3 = back .if3 in
+    let if2 = back .before .if2 in
+    let back = back .before .before .before in
+    let wide-size2 = back .wide-size2 in
+    let loop-test = back .before .loop-test in
+    let back = back .before .before in
+    let loop = back .loop in
+    let wide-size = back .before .wide-size in
+    let segment-at = back .before .before .before .segment-at in
+    let walk = back .before .before .before .before .before .walk in
+    let walking = back .before .before .before .before .before .before .before .before .before .before .pre .0 in
+    c .found .ensures
+    ∙ sight-is walking _ (loop .places) (if3 .taken) (wide-size3 .ensures) _ _ _ (stays .ensures) (if5 .taken)
+    ∙ selectors-stay
+    (loop .inv .on)
+    (loop-test .taken)
+    (selector-is walking _ _ (segment-at .ensures) (omega (arith, wide-size .ensures)) (wide-size2 .ensures))
+    (if2 .left)
+    (named-yes walking _ _ (if3 .taken) (wide-size3 .ensures) (if4 .taken))
+    (visit-stay walking _ (loop .places) (if3 .taken) (wide-size3 .ensures) _ _ _ (stays .ensures) (if5 .taken))
+    ∙ walk .inv .same
 
 returns-3 : tie.Need-returns-3 Inv-loop μ-loop Inv-walk μ-walk
-returns-3 c = c .lost-at .ensures ∙ selectors-lost (c .before .before .before .before .before .before .before .before .before .before .loop .inv .on) (c .before .before .before .before .before .before .before .before .before .loop-test .taken) (selector-is (c .before .before .before .before .before .before .before .before .before .before .before .before .before .before .before .before .before .before .before .before .pre .0) _ _ (c .before .before .before .before .before .before .before .before .before .before .before .before .before .segment-at .ensures) (omega (arith, c .before .before .before .before .before .before .before .before .before .before .before .wide-size .ensures)) (c .before .before .before .before .before .before .before .before .wide-size2 .ensures)) (c .before .before .before .before .before .before .if2 .left) (named-past (c .before .before .before .before .before .before .before .before .before .before .before .before .before .before .before .before .before .before .before .before .pre .0) _ _ (c .before .before .before .before .before .if3 .taken) (c .before .before .before .before .wide-size3 .ensures) (c .before .if4 .left)) ∙ c .before .before .before .before .before .before .before .before .before .before .before .before .before .before .before .walk .inv .same
+returns-3 c =
+    let back = c .before in
+    let if4 = back .if4 in
+    let back = back .before .before .before in
+    let wide-size3 = back .wide-size3 in
+    let back = back .before in
+    let if3 = back .if3 in
+    let if2 = back .before .if2 in
+    let back = back .before .before .before in
+    let wide-size2 = back .wide-size2 in
+    let loop-test = back .before .loop-test in
+    let back = back .before .before in
+    let loop = back .loop in
+    let wide-size = back .before .wide-size in
+    let segment-at = back .before .before .before .segment-at in
+    let walk = back .before .before .before .before .before .walk in
+    let walking = back .before .before .before .before .before .before .before .before .before .before .pre .0 in
+    c .lost-at .ensures
+    ∙ selectors-lost
+    (loop .inv .on)
+    (loop-test .taken)
+    (selector-is walking _ _ (segment-at .ensures) (omega (arith, wide-size .ensures)) (wide-size2 .ensures))
+    (if2 .left)
+    (named-past walking _ _ (if3 .taken) (wide-size3 .ensures) (if4 .left))
+    ∙ walk .inv .same
 
 returns-4 : tie.Need-returns-4 Inv-loop μ-loop Inv-walk μ-walk
-returns-4 c = c .lost-at2 .ensures ∙ selectors-lost (c .before .before .before .before .before .before .loop .inv .on) (c .before .before .before .before .before .loop-test .taken) (selector-is (c .before .before .before .before .before .before .before .before .before .before .before .before .before .before .before .before .pre .0) _ _ (c .before .before .before .before .before .before .before .before .before .segment-at .ensures) (omega (arith, c .before .before .before .before .before .before .before .wide-size .ensures)) (c .before .before .before .before .wide-size2 .ensures)) (c .before .before .if2 .left) (named-run (c .before .before .before .before .before .before .before .before .before .before .before .before .before .before .before .before .pre .0) _ (c .before .before .before .before .before .before .loop .places) (c .before .if3 .left)) ∙ c .before .before .before .before .before .before .before .before .before .before .before .walk .inv .same
+returns-4 c =
+    let back = c .before in
+    let if3 = back .if3 in
+    let if2 = back .before .if2 in
+    let back = back .before .before .before in
+    let wide-size2 = back .wide-size2 in
+    let loop-test = back .before .loop-test in
+    let back = back .before .before in
+    let loop = back .loop in
+    let wide-size = back .before .wide-size in
+    let segment-at = back .before .before .before .segment-at in
+    let walk = back .before .before .before .before .before .walk in
+    let walking = back .before .before .before .before .before .before .before .before .before .before .pre .0 in
+    c .lost-at2 .ensures
+    ∙ selectors-lost
+    (loop .inv .on)
+    (loop-test .taken)
+    (selector-is walking _ _ (segment-at .ensures) (omega (arith, wide-size .ensures)) (wide-size2 .ensures))
+    (if2 .left)
+    (named-run walking _ (loop .places) (if3 .left))
+    ∙ walk .inv .same
 
 pub seek-from-spec : {M : Type 1} → statement M
 seek-from-spec =

@@ -45,13 +45,20 @@ loop-less : tie.Need-loop-less Inv-loop μ-loop
 loop-less c = omega arith
 
 loop-again : tie.Need-loop-again Inv-loop μ-loop
-loop-again c = (omega arith, omega (arith, c .before .before .put2 .kept), offsets-next (c .before .before .before .before .before .before .before .before .before .before .args .places .now) _ (c .before .before .put2 .ensures) (omega arith) (omega arith) ∙ c .before .before .before .before .before .before .loop .inv .2)
+loop-again c =
+    let put2 = c .before .before .put2 in
+    let loop = c .before .before .before .before .before .before .loop in
+    let args = c .before .before .before .before .before .before .before .before .before .before .args in
+    (omega arith, omega (arith, put2 .kept), offsets-next (args .places .now) _ (put2 .ensures) (omega arith) (omega arith) ∙ loop .inv .2)
 
 same-length : tie.Need-same-length Inv-loop μ-loop
 same-length c = omega arith
 
 returns : tie.Need-returns Inv-loop μ-loop
-returns c = sym (offsets-end (c .before .before .before .before .before .args .places .now) _ _ (omega arith)) ∙ c .before .loop .inv .2
+returns c =
+    let loop = c .before .loop in
+    let args = c .before .before .before .before .before .args in
+    sym (offsets-end (args .places .now) _ _ (omega arith)) ∙ loop .inv .2
 
 pub put-offsets-spec : {M : Type 1} → statement M
 put-offsets-spec =

@@ -28,13 +28,17 @@ loop-less : tie.Need-loop-less Inv-loop μ-loop
 loop-less c = omega arith
 
 loop-again : tie.Need-loop-again Inv-loop μ-loop
-loop-again c = (omega arith, simp length-set (omega arith), holders-next _ (c .loop-test .taken) (omega arith) ∙ c .before .loop .inv .2)
+loop-again c =
+    let loop = c .before .loop in
+    (omega arith, simp length-set (omega arith), holders-next _ (c .loop-test .taken) (omega arith) ∙ loop .inv .2)
 
 same-length : tie.Need-same-length Inv-loop μ-loop
 same-length c = omega arith
 
 returns : tie.Need-returns Inv-loop μ-loop
-returns c = sym (holders-end _ (c .loop-test .left)) ∙ c .before .loop .inv .2
+returns c =
+    let loop = c .before .loop in
+    sym (holders-end _ (c .loop-test .left)) ∙ loop .inv .2
 
 pub put-placeholders-spec : {M : Type 1} → statement M
 put-placeholders-spec =

@@ -39,10 +39,33 @@ add-to : tie.Need-add-to
 add-to c = search needs
 
 put-keys-requires : tie.Need-put-keys-requires
-put-keys-requires c κs = (c .before .before .before .before .before .before .before .before .before .before .before .before .before .before .before .before .before .before .before .before .before .before .before .before .before .before .before .before .before .pre .0, (c .before .before .before .before .before .before .before .before .before .before .before .before .before .before .before .before .before .before .before .before .before .before .before .before .before .before .before .before .before .pre .1 .0, omega arith, omega (arith, c .before .before .before .before .before .before .before .before .before .before .before .before .before .before .before .before .before .before .before .before .before .before .before .before .before .before .before .before .before .pre .1, c .before .before .before .before .before .before .before .before .before .before .before .before .before .before .before .put8 .kept, c .before .before .before .before .before .before .before .before .before .before .put-offsets .kept, c .before .before .before .before .before .before .before .wide-size .ensures, c .before .before .before .before .before .before .wide-size2 .ensures)))
+put-keys-requires c κs =
+    let back = c .before .before .before .before .before .before in
+    let wide-size2 = back .wide-size2 in
+    let wide-size = back .before .wide-size in
+    let back = back .before .before .before .before in
+    let put-offsets = back .put-offsets in
+    let back = back .before .before .before .before .before in
+    let put8 = back .put8 in
+    let back = back .before .before .before .before .before .before .before .before .before .before .before .before .before .before in
+    let pre = back .pre in
+    let heading = back .pre .0 in
+    (heading, (pre .1 .0, omega arith, omega (arith, pre .1, put8 .kept, put-offsets .kept, wide-size .ensures, wide-size2 .ensures)))
 
 put-placeholders-requires : tie.Need-put-placeholders-requires
-put-placeholders-requires c κs = (c .before .before .before .before .before .before .before .before .before .before .before .before .before .put-keys .ensures .1 .1, omega (arith, c .before .before .before .before .before .before .before .before .before .before .before .before .before .before .before .before .before .before .before .before .before .before .before .before .before .before .before .before .before .before .before .before .before .before .before .before .before .before .before .before .before .before .before .pre .1, c .before .before .before .before .before .before .before .before .before .before .before .before .before .before .before .before .before .before .before .before .before .before .before .before .before .before .before .before .before .put8 .kept, c .before .before .before .before .before .before .before .before .before .before .before .before .before .before .before .before .before .before .before .before .before .before .before .before .put-offsets .kept, c .before .before .before .before .before .before .before .before .before .before .before .before .before .put-keys .kept, c .before .before .before .before .before .before .before .before .before .before .before .before .before .before .before .before .before .before .before .before .before .wide-size .ensures, c .before .before .before .before .before .before .before .before .before .before .before .before .before .before .before .before .before .before .before .before .wide-size2 .ensures))
+put-placeholders-requires c κs =
+    let back = c .before .before .before .before .before .before .before .before .before .before .before .before .before in
+    let put-keys = back .put-keys in
+    let back = back .before .before .before .before .before .before .before in
+    let wide-size2 = back .wide-size2 in
+    let wide-size = back .before .wide-size in
+    let back = back .before .before .before .before in
+    let put-offsets = back .put-offsets in
+    let put8 = back .before .before .before .before .before .put8 in
+    let pre =
+    back .before .before .before .before .before .before .before .before .before .before .before .before .before .before .before .before .before
+    .before .before .pre in
+    (put-keys .ensures .1 .1, omega (arith, pre .1, put8 .kept, put-offsets .kept, put-keys .kept, wide-size .ensures, wide-size2 .ensures))
 
 sub-result : tie.Need-sub-result
 sub-result c = search needs
@@ -66,7 +89,38 @@ same-length-6 : tie.Need-same-length-6
 same-length-6 c = search needs
 
 returns : tie.Need-returns
-returns c = segmented (least-key (c .before .before .before .before .before .before .before .before .before .before .before .before .before .before .before .before .before .before .before .before .before .before .before .before .before .before .before .before .before .before .before .before .before .before .before .before .before .before .before .before .before .before .before .before .before .before .pre .0) (c .before .before .before .before .before .before .before .before .before .before .before .before .before .before .before .before .before .before .before .before .before .before .before .before .before .before .before .before .before .before .before .before .before .before .before .before .before .before .before .before .before .before .before .before .before .before .pre .1 .0) (c .before .before .before .before .before .before .before .before .before .before .before .before .before .before .before .before .before .before .before .before .before .before .before .before .before .before .before .before .before .before .before .before .before .before .leader .ensures)) (c .before .before .before .before .before .before .before .before .before .before .before .before .before .before .before .before .before .before .before .before .before .before .before .before .before .before .before .before .before .before .before .before .put8 .ensures) (c .before .before .before .before .before .before .before .before .before .before .before .before .before .before .before .before .before .before .before .before .before .before .before .before .before .before .before .put-offsets .ensures) (omega arith) (omega arith) (c .before .before .before .before .before .before .before .before .before .before .before .before .before .before .before .before .put-keys .ensures .0) (c .before .before .before .before .before .before .before .before .before .before .before .before .before .before .before .before .put-keys .ensures .1 .0) (c .before .before .before .before .before .before .before .before .before .before .before .before .before .before .before .before .put-keys .ensures .1 .1) (c .before .before .put-placeholders .ensures)
+returns c =
+    let put-placeholders-ensures = c .before .before .put-placeholders .ensures in
+    let put-keys-ensures =
+    c .before .before .before .before .before .before .before .before .before .before .before .before .before .before .before .before .put-keys
+    .ensures in
+    let put-offsets-ensures =
+    c .before .before .before .before .before .before .before .before .before .before .before .before .before .before .before .before .before .before
+    .before .before .before .before .before .before .before .before .before .put-offsets .ensures in
+    let put8-ensures =
+    c .before .before .before .before .before .before .before .before .before .before .before .before .before .before .before .before .before .before
+    .before .before .before .before .before .before .before .before .before .before .before .before .before .before .put8 .ensures in
+    let leader-ensures =
+    c .before .before .before .before .before .before .before .before .before .before .before .before .before .before .before .before .before .before
+    .before .before .before .before .before .before .before .before .before .before .before .before .before .before .before .before .leader .ensures
+    in
+    let heading =
+    c .before .before .before .before .before .before .before .before .before .before .before .before .before .before .before .before .before .before
+    .before .before .before .before .before .before .before .before .before .before .before .before .before .before .before .before .before .before
+    .before .before .before .before .before .before .before .before .before .before .pre .0 in
+    let pre-1-0 =
+    c .before .before .before .before .before .before .before .before .before .before .before .before .before .before .before .before .before .before
+    .before .before .before .before .before .before .before .before .before .before .before .before .before .before .before .before .before .before
+    .before .before .before .before .before .before .before .before .before .before .pre .1 .0 in
+    segmented
+    (least-key heading pre-1-0 leader-ensures)
+    put8-ensures put-offsets-ensures
+    (omega arith)
+    (omega arith)
+    (put-keys-ensures .0)
+    (put-keys-ensures .1 .0)
+    (put-keys-ensures .1 .1)
+    put-placeholders-ensures
 
 pub put-segment-spec : {M : Type 1} → statement M
 put-segment-spec =

@@ -14,7 +14,12 @@ use Rattle.segment.proofs.write_only.Reads as write-only-reads
 use Rattle.advancing.proofs.fill_heads.Reads as fill-heads-reads
 
 write-only-requires : tie.Need-write-only-requires
-write-only-requires c κs = (c .before .before .before .before .before .before .before .before .pre .0, (omega (arith, c .before .before .before .before .before .before .before .before .pre .1, c .before .before .if1 .taken), omega (arith, c .before .before .before .before .before .before .before .before .pre .1, c .before .before .if1 .taken)))
+write-only-requires c κs =
+    let if1 = c .before .before .if1 in
+    let back = c .before .before .before .before .before .before .before .before in
+    let pre = back .pre in
+    let reading = back .pre .0 in
+    (reading, (omega (arith, pre .1, if1 .taken), omega (arith, pre .1, if1 .taken)))
 
 same-length : tie.Need-same-length
 same-length c = search needs
@@ -23,7 +28,12 @@ same-length-2 : tie.Need-same-length-2
 same-length-2 c = search needs
 
 returns : tie.Need-returns
-returns c = (only-segment (c .before .before .before .before .before .before .before .if1 .taken) (c .before .before .before .before .write-only .ensures), reading-on (c .before .before .before .before .before .before .before .before .before .before .before .before .before .pre .0) (omega (arith, c .before .before .before .before .write-only .kept)))
+returns c =
+    let back = c .before .before .before .before in
+    let write-only = back .write-only in
+    let if1 = back .before .before .before .if1 in
+    let reading = back .before .before .before .before .before .before .before .before .before .pre .0 in
+    (only-segment (if1 .taken) (write-only .ensures), reading-on reading (omega (arith, write-only .kept)))
 
 slice-aggregate-fill-heads : tie.Need-slice-aggregate-fill-heads
 slice-aggregate-fill-heads c = search needs
@@ -38,7 +48,11 @@ slice-aggregate-fill-heads-4 : tie.Need-slice-aggregate-fill-heads-4
 slice-aggregate-fill-heads-4 c = search needs
 
 fill-heads-requires : tie.Need-fill-heads-requires
-fill-heads-requires c κs = (c .before .before .before .before .before .before .before .before .before .before .before .pre .0, (c .before .before .before .before .before .before .before .before .before .before .before .pre .1 .0, padded-none, refl, refl, refl))
+fill-heads-requires c κs =
+    let back = c .before .before .before .before .before .before .before .before .before .before .before in
+    let pre = back .pre in
+    let reading = back .pre .0 in
+    (reading, (pre .1 .0, padded-none, refl, refl, refl))
 
 slice-aggregate-put-segment : tie.Need-slice-aggregate-put-segment
 slice-aggregate-put-segment c = search needs
@@ -62,7 +76,13 @@ same-length-4 : tie.Need-same-length-4
 same-length-4 c = search needs
 
 returns-2 : tie.Need-returns-2
-returns-2 c = (c .before .before .before .before .before .before .before .before .put-segment .ensures, reading-on (c .before .before .before .before .before .before .before .before .before .before .before .before .before .before .before .before .before .before .before .before .before .before .before .before .before .before .before .before .before .before .before .pre .0) (omega (arith, c .before .before .before .before .before .before .before .before .put-segment .kept)))
+returns-2 c =
+    let back = c .before .before .before .before .before .before .before .before in
+    let put-segment = back .put-segment in
+    let reading =
+    back .before .before .before .before .before .before .before .before .before .before .before .before .before .before .before .before .before
+    .before .before .before .before .before .before .pre .0 in
+    (put-segment .ensures, reading-on reading (omega (arith, put-segment .kept)))
 
 pub write-segment-spec : {M : Type 1} → statement M
 write-segment-spec =

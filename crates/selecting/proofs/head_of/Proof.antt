@@ -28,31 +28,79 @@ shared-slice-read-e : tie.Need-shared-slice-read-e
 shared-slice-read-e c = omega arith
 
 sub-key-at : tie.Need-sub-key-at
-sub-key-at c = cut _ (c .before .before .before .before .before .pre .0) (c .before .before .before .before .before .pre .1 .0) (c .before .before .wide-size .ensures) .start
+sub-key-at c =
+    let wide-size = c .before .before .wide-size in
+    let pre = c .before .before .before .before .before .pre in
+    let starts = c .before .before .before .before .before .pre .0 in
+    cut _ starts (pre .1 .0) (wide-size .ensures) .start
 
 part-key-at-start : tie.Need-part-key-at-start
-part-key-at-start c = cut _ (c .before .before .before .before .before .pre .0) (c .before .before .before .before .before .pre .1 .0) (c .before .before .wide-size .ensures) .start
+part-key-at-start c =
+    let wide-size = c .before .before .wide-size in
+    let pre = c .before .before .before .before .before .pre in
+    let starts = c .before .before .before .before .before .pre .0 in
+    cut _ starts (pre .1 .0) (wide-size .ensures) .start
 
 part-key-at-end : tie.Need-part-key-at-end
-part-key-at-end c = cut _ (c .before .before .before .before .before .pre .0) (c .before .before .before .before .before .pre .1 .0) (c .before .before .wide-size .ensures) .end
+part-key-at-end c =
+    let wide-size = c .before .before .wide-size in
+    let pre = c .before .before .before .before .before .pre in
+    let starts = c .before .before .before .before .before .pre .0 in
+    cut _ starts (pre .1 .0) (wide-size .ensures) .end
 
 key-at-requires : tie.Need-key-at-requires
-key-at-requires c κs = let k = cut _ (c .before .before .before .before .before .before .pre .0) (c .before .before .before .before .before .before .pre .1 .0) (c .before .before .before .wide-size .ensures) in omega (arith, k .whole)
+key-at-requires c κs =
+    let wide-size = c .before .before .before .wide-size in
+    let pre = c .before .before .before .before .before .before .pre in
+    let starts = c .before .before .before .before .before .before .pre .0 in
+    let k = cut _ starts (pre .1 .0) (wide-size .ensures) in omega (arith, k .whole)
 
 sub-kind-at : tie.Need-sub-kind-at
-sub-kind-at c = cut _ (c .before .before .before .before .before .before .before .pre .0) (c .before .before .before .before .before .before .before .pre .1 .0) (c .before .before .before .before .wide-size .ensures) .start
+sub-kind-at c =
+    let back = c .before .before .before .before in
+    let wide-size = back .wide-size in
+    let pre = back .before .before .before .pre in
+    let starts = back .before .before .before .pre .0 in
+    cut _ starts (pre .1 .0) (wide-size .ensures) .start
 
 part-kind-at-start : tie.Need-part-kind-at-start
-part-kind-at-start c = cut _ (c .before .before .before .before .before .before .before .pre .0) (c .before .before .before .before .before .before .before .pre .1 .0) (c .before .before .before .before .wide-size .ensures) .start
+part-kind-at-start c =
+    let back = c .before .before .before .before in
+    let wide-size = back .wide-size in
+    let pre = back .before .before .before .pre in
+    let starts = back .before .before .before .pre .0 in
+    cut _ starts (pre .1 .0) (wide-size .ensures) .start
 
 part-kind-at-end : tie.Need-part-kind-at-end
-part-kind-at-end c = cut _ (c .before .before .before .before .before .before .before .pre .0) (c .before .before .before .before .before .before .before .pre .1 .0) (c .before .before .before .before .wide-size .ensures) .end
+part-kind-at-end c =
+    let back = c .before .before .before .before in
+    let wide-size = back .wide-size in
+    let pre = back .before .before .before .pre in
+    let starts = back .before .before .before .pre .0 in
+    cut _ starts (pre .1 .0) (wide-size .ensures) .end
 
 kind-at-requires : tie.Need-kind-at-requires
-kind-at-requires c κs = let k = cut _ (c .before .before .before .before .before .before .before .before .pre .0) (c .before .before .before .before .before .before .before .before .pre .1 .0) (c .before .before .before .before .before .wide-size .ensures) in omega (arith, k .whole)
+kind-at-requires c κs =
+    let back = c .before .before .before .before .before in
+    let wide-size = back .wide-size in
+    let pre = back .before .before .before .pre in
+    let starts = back .before .before .before .pre .0 in
+    let k = cut _ starts (pre .1 .0) (wide-size .ensures) in omega (arith, k .whole)
 
 returns : tie.Need-returns
-returns c = let k = cut _ (c .before .before .before .before .before .before .before .before .before .pre .0) (c .before .before .before .before .before .before .before .before .before .pre .1 .0) (c .before .before .before .before .before .before .wide-size .ensures) in record { key = c .before .before .key-at .ensures ∙ ap (λ (s : List ℕ). recordAt s (c .before .before .before .before .before .before .before .before .before .args .p .0) .key) (k .bytes); kind = c .kind-at .ensures ∙ ap (λ (s : List ℕ). recordAt s (c .before .before .before .before .before .before .before .before .before .args .p .0) .kind) (k .bytes) }
+returns c =
+    let back = c .before .before in
+    let key-at = back .key-at in
+    let back = back .before .before .before .before in
+    let wide-size = back .wide-size in
+    let args = back .before .before .before .args in
+    let pre = back .before .before .before .pre in
+    let starts = back .before .before .before .pre .0 in
+    let k = cut _ starts (pre .1 .0) (wide-size .ensures) in
+    record {
+      key = key-at .ensures ∙ ap (λ (s : List ℕ). recordAt s (args .p .0) .key) (k .bytes);
+      kind = c .kind-at .ensures ∙ ap (λ (s : List ℕ). recordAt s (args .p .0) .kind) (k .bytes);
+    }
 
 pub head-of-spec : {M : Type 1} → statement M
 head-of-spec =

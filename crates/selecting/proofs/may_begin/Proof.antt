@@ -10,10 +10,14 @@ gone-requires : tie.Need-gone-requires
 gone-requires c κs = search needs
 
 mul-result : tie.Need-mul-result
-mul-result c = omega (arith, c .gone .ensures, off-low (eqb (c .before .args .e .kind) 0))
+mul-result c =
+    let args = c .before .args in
+    omega (arith, c .gone .ensures, off-low (eqb (args .e .kind) 0))
 
 add-result : tie.Need-add-result
-add-result c = omega (arith, c .gone .ensures, off-low (eqb (c .before .args .e .kind) 0))
+add-result c =
+    let args = c .before .args in
+    omega (arith, c .gone .ensures, off-low (eqb (args .e .kind) 0))
 
 returns : tie.Need-returns
 returns c = begin-is _ _ (c .gone .ensures)

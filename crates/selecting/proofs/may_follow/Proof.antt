@@ -10,19 +10,28 @@ equal-requires : tie.Need-equal-requires
 equal-requires c κs = search needs
 
 mul-if1 : tie.Need-mul-if1
-mul-if1 c = omega (arith, c .equal .ensures, bit-low (eqb (c .before .args .last) (c .before .args .e .key)))
+mul-if1 c =
+    let args = c .before .args in
+    omega (arith, c .equal .ensures, bit-low (eqb (args .last) (args .e .key)))
 
 add-if1 : tie.Need-add-if1
-add-if1 c = omega (arith, c .equal .ensures, bit-low (eqb (c .before .args .last) (c .before .args .e .key)))
+add-if1 c =
+    let args = c .before .args in
+    omega (arith, c .equal .ensures, bit-low (eqb (args .last) (args .e .key)))
 
 gone-requires : tie.Need-gone-requires
 gone-requires c κs = search needs
 
 mul-if1-2 : tie.Need-mul-if1-2
-mul-if1-2 c = omega (arith, c .gone .ensures, off-low (eqb (c .before .before .args .e .kind) 0))
+mul-if1-2 c =
+    let args = c .before .before .args in
+    omega (arith, c .gone .ensures, off-low (eqb (args .e .kind) 0))
 
 add-if1-2 : tie.Need-add-if1-2
-add-if1-2 c = omega (arith, c .before .equal .ensures, bit-low (eqb (c .before .before .args .last) (c .before .before .args .e .key)), c .gone .ensures, off-low (eqb (c .before .before .args .e .kind) 0))
+add-if1-2 c =
+    let equal = c .before .equal in
+    let args = c .before .before .args in
+    omega (arith, equal .ensures, bit-low (eqb (args .last) (args .e .key)), c .gone .ensures, off-low (eqb (args .e .kind) 0))
 
 add-result : tie.Need-add-result
 add-result c = omega arith
@@ -31,13 +40,25 @@ sub-result : tie.Need-sub-result
 sub-result c = omega arith
 
 returns : tie.Need-returns
-returns c = follow-is _ _ _ _ (c .before .before .before .equal .ensures) (c .before .before .gone .ensures) (c .before .if1 .taken) (c .before .before .before .before .pre) (c .if2 .taken)
+returns c =
+    let if1 = c .before .if1 in
+    let gone = c .before .before .gone in
+    let equal = c .before .before .before .equal in
+    let pre = c .before .before .before .before .pre in
+    follow-is _ _ _ _ (equal .ensures) (gone .ensures) (if1 .taken) pre (c .if2 .taken)
 
 returns-2 : tie.Need-returns-2
-returns-2 c = follow-falls _ _ _ _ (c .before .before .before .equal .ensures) (c .before .before .gone .ensures) (c .before .if1 .taken) (c .if2 .left)
+returns-2 c =
+    let if1 = c .before .if1 in
+    let gone = c .before .before .gone in
+    let equal = c .before .before .before .equal in
+    follow-falls _ _ _ _ (equal .ensures) (gone .ensures) (if1 .taken) (c .if2 .left)
 
 returns-3 : tie.Need-returns-3
-returns-3 c = follow-not _ _ _ _ (c .before .before .equal .ensures) (c .before .gone .ensures) (c .if1 .left)
+returns-3 c =
+    let gone = c .before .gone in
+    let equal = c .before .before .equal in
+    follow-not _ _ _ _ (equal .ensures) (gone .ensures) (c .if1 .left)
 
 pub may-follow-spec : {M : Type 1} → statement M
 may-follow-spec =

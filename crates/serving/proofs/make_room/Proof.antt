@@ -11,7 +11,9 @@ returns : tie.Need-returns
 returns c = record { same-kept = refl; same-number = refl; same-gathered = refl; held-or-written = inl refl; low = omega arith }
 
 slice-aggregate-write-all : tie.Need-slice-aggregate-write-all
-slice-aggregate-write-all c = sym (length-take-le _ _ (c .before .before .before .pre))
+slice-aggregate-write-all c =
+    let pre = c .before .before .before .pre in
+    sym (length-take-le _ _ pre)
 
 write-all-requires : tie.Need-write-all-requires
 write-all-requires c κs = search needs

@@ -16,7 +16,9 @@ enum-told-2 c = search needs
 
 returns : tie.Need-returns
 unfolding nothingAt
-returns c = ap nothingAt (sym (c .before .sight .given .1))
+returns c =
+    let sight = c .before .sight in
+    ap nothingAt (sym (sight .given .1))
 
 returns-2 : tie.Need-returns-2
 unfolding nothingAt

@@ -15,16 +15,27 @@ use Rattle.sheet.proofs.sheet_between.Statement.{statement}
 use Rattle.sheet.proofs.sheet_between.Tie as tie
 
 start-at-requires : tie.Need-start-at-requires
-start-at-requires c κs = (walking (c .before .before .before .before .before .pre .0) (c .before .before .before .before .before .pre .1)) .index
+start-at-requires c κs =
+    let opened = c .before .before .before .before .before .pre .0 in
+    let laid = c .before .before .before .before .before .pre .1 in
+    (walking opened laid) .index
 
 slice-aggregate-seek-from : tie.Need-slice-aggregate-seek-from
-slice-aggregate-seek-from c = sym (c .before .before .before .before .before .before .before .pre .0 .room)
+slice-aggregate-seek-from c =
+    let opened = c .before .before .before .before .before .before .before .pre .0 in
+    sym (opened .room)
 
 slice-aggregate-seek-from-2 : tie.Need-slice-aggregate-seek-from-2
-slice-aggregate-seek-from-2 c = sym (c .before .before .before .before .before .before .before .before .pre .0 .at .room)
+slice-aggregate-seek-from-2 c =
+    let opened = c .before .before .before .before .before .before .before .before .pre .0 in
+    sym (opened .at .room)
 
 seek-from-requires : tie.Need-seek-from-requires
-seek-from-requires c κs = ((walking (c .before .before .before .before .before .before .before .before .pre .0) (c .before .before .before .before .before .before .before .before .pre .1)), c .before .before .before .before .before .before .before .before .pre .0 .at)
+seek-from-requires c κs =
+    let back = c .before .before .before .before .before .before .before .before in
+    let opened = back .pre .0 in
+    let laid = back .pre .1 in
+    ((walking opened laid), opened .at)
 
 enum-known-sight : tie.Need-enum-known-sight
 enum-known-sight c = search needs
@@ -33,31 +44,90 @@ found-nothing-requires : tie.Need-found-nothing-requires
 found-nothing-requires c κs = search needs
 
 returns : tie.Need-returns
-returns c = gives-none _ _ _ _ (walking (c .before .before .before .before .before .before .before .before .before .before .before .pre .0) (c .before .before .before .before .before .before .before .before .before .before .before .pre .1)) (c .before .before .before .before .before .start-at .ensures) (c .before .before .seek-from .ensures) _ _ (λ run place z. not-found (subst (λ (s : Sight). OneOf (1 ∷ 2 ∷ []) (tagOf the-type s)) z (c .before .match .keys2))) (c .found-nothing .ensures)
+returns c =
+    let match = c .before .match in
+    let seek-from = c .before .before .seek-from in
+    let back = c .before .before .before .before .before in
+    let start-at = back .start-at in
+    let opened = back .before .before .before .before .before .before .pre .0 in
+    let laid = back .before .before .before .before .before .before .pre .1 in
+    gives-none _ _ _ _
+    (walking opened laid)
+    (start-at .ensures)
+    (seek-from .ensures)
+    _ _
+    (λ run place z. not-found (subst (λ (s : Sight). OneOf (1 ∷ 2 ∷ []) (tagOf the-type s)) z (match .keys2)))
+    (c .found-nothing .ensures)
 
 slice-aggregate-head-of : tie.Need-slice-aggregate-head-of
-slice-aggregate-head-of c = sym (c .before .before .before .before .before .before .before .before .before .before .before .before .before .pre .0 .at .room)
+slice-aggregate-head-of c =
+    let opened = c .before .before .before .before .before .before .before .before .before .before .before .before .before .pre .0 in
+    sym (opened .at .room)
 
 head-of-requires : tie.Need-head-of-requires
-head-of-requires c κs = let z = found-there _ _ _ _ (walking (c .before .before .before .before .before .before .before .before .before .before .before .before .before .pre .0) (c .before .before .before .before .before .before .before .before .before .before .before .before .before .pre .1)) (c .before .before .before .before .before .before .before .start-at .ensures) (c .before .before .before .before .seek-from .ensures) (c .before .before .sight .given .1) in (c .before .before .before .before .before .before .before .before .before .before .before .before .before .pre .0 .at, (z .0, z .1))
+head-of-requires c κs =
+    let back = c .before .before in
+    let sight = back .sight in
+    let seek-from = back .before .before .seek-from in
+    let back = back .before .before .before .before .before in
+    let start-at = back .start-at in
+    let opened = back .before .before .before .before .before .before .pre .0 in
+    let laid = back .before .before .before .before .before .before .pre .1 in
+    let z = found-there _ _ _ _ (walking opened laid) (start-at .ensures) (seek-from .ensures) (sight .given .1) in (opened .at, (z .0, z .1))
 
 returns-2 : tie.Need-returns-2
-returns-2 c = gives-past _ _ _ _ (walking (c .before .before .before .before .before .before .before .before .before .before .before .before .before .before .before .before .pre .0) (c .before .before .before .before .before .before .before .before .before .before .before .before .before .before .before .before .pre .1)) (c .before .before .before .before .before .before .before .before .before .before .start-at .ensures) (c .before .before .before .before .before .before .before .seek-from .ensures) _ _ (c .before .before .before .before .before .sight .given .1) (c .before .before .head-of .ensures .key) (c .if1 .taken)
+returns-2 c =
+    let back = c .before .before in
+    let head-of = back .head-of in
+    let back = back .before .before .before in
+    let sight = back .sight in
+    let seek-from = back .before .before .seek-from in
+    let back = back .before .before .before .before .before in
+    let start-at = back .start-at in
+    let opened = back .before .before .before .before .before .before .pre .0 in
+    let laid = back .before .before .before .before .before .before .pre .1 in
+    gives-past _ _ _ _ (walking opened laid) (start-at .ensures) (seek-from .ensures) _ _ (sight .given .1) (head-of .ensures .key) (c .if1 .taken)
 
 slice-aggregate-list-from : tie.Need-slice-aggregate-list-from
-slice-aggregate-list-from c = sym (c .before .before .before .before .before .before .before .before .before .before .before .before .before .before .before .before .before .before .pre .0 .room)
+slice-aggregate-list-from c =
+    let opened =
+    c .before .before .before .before .before .before .before .before .before .before .before .before .before .before .before .before .before .before
+    .pre .0 in
+    sym (opened .room)
 
 slice-aggregate-list-from-2 : tie.Need-slice-aggregate-list-from-2
-slice-aggregate-list-from-2 c = sym (c .before .before .before .before .before .before .before .before .before .before .before .before .before .before .before .before .before .before .before .pre .0 .at .room)
+slice-aggregate-list-from-2 c =
+    let opened =
+    c .before .before .before .before .before .before .before .before .before .before .before .before .before .before .before .before .before .before
+    .before .pre .0 in
+    sym (opened .at .room)
 
 list-from-requires : tie.Need-list-from-requires
-list-from-requires c κs = let z = seek-below _ _ _ _ _ (walking (c .before .before .before .before .before .before .before .before .before .before .before .before .before .before .before .before .before .before .before .before .pre .0) (c .before .before .before .before .before .before .before .before .before .before .before .before .before .before .before .before .before .before .before .before .pre .1)) (c .before .before .before .before .before .before .before .before .before .before .before .seek-from .ensures) (c .before .before .before .before .before .before .before .before .before .sight .given .1) in ((walking (c .before .before .before .before .before .before .before .before .before .before .before .before .before .before .before .before .before .before .before .before .pre .0) (c .before .before .before .before .before .before .before .before .before .before .before .before .before .before .before .before .before .before .before .before .pre .1)), (c .before .before .before .before .before .before .before .before .before .before .before .before .before .before .before .before .before .before .before .before .pre .0 .at, (z .0, omega (arith, z .1))))
+list-from-requires c κs =
+    let back = c .before .before .before .before .before .before .before .before .before in
+    let sight = back .sight in
+    let seek-from = back .before .before .seek-from in
+    let back = back .before .before .before .before .before .before .before .before .before .before .before in
+    let opened = back .pre .0 in
+    let laid = back .pre .1 in
+    let z = seek-below _ _ _ _ _ (walking opened laid) (seek-from .ensures) (sight .given .1) in
+    ((walking opened laid), (opened .at, (z .0, omega (arith, z .1))))
 
 same-length : tie.Need-same-length
 same-length c = search needs
 
 returns-3 : tie.Need-returns-3
-returns-3 c = gives-found _ _ _ _ (walking (c .before .before .before .before .before .before .before .before .before .before .before .before .before .before .before .before .before .before .before .before .before .before .before .pre .0) (c .before .before .before .before .before .before .before .before .before .before .before .before .before .before .before .before .before .before .before .before .before .before .before .pre .1)) (c .before .before .before .before .before .before .before .before .before .before .before .before .before .before .before .before .before .start-at .ensures) (c .before .before .before .before .before .before .before .before .before .before .before .before .before .before .seek-from .ensures) _ (c .before .before .before .before .before .before .before .before .before .before .before .before .sight .given .1) (c .before .before .list-from .ensures)
+returns-3 c =
+    let back = c .before .before in
+    let list-from = back .list-from in
+    let back = back .before .before .before .before .before .before .before .before .before .before in
+    let sight = back .sight in
+    let seek-from = back .before .before .seek-from in
+    let back = back .before .before .before .before .before in
+    let start-at = back .start-at in
+    let opened = back .before .before .before .before .before .before .pre .0 in
+    let laid = back .before .before .before .before .before .before .pre .1 in
+    gives-found _ _ _ _ (walking opened laid) (start-at .ensures) (seek-from .ensures) _ (sight .given .1) (list-from .ensures)
 
 pub sheet-between-spec : {M : Type 1} → statement M
 sheet-between-spec =

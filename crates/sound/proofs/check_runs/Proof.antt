@@ -44,16 +44,29 @@ array-read-e : tie.Need-array-read-e Inv-loop μ-loop
 array-read-e c = search needs
 
 sub-check-run : tie.Need-sub-check-run Inv-loop μ-loop
-sub-check-run c = let k = cut-run _ (c .before .before .before .before .before .before .pre) (c .before .loop-test .taken) (c .wide-size .ensures) in omega (arith, k .part .start)
+sub-check-run c =
+    let loop-test = c .before .loop-test in
+    let opened = c .before .before .before .before .before .before .pre in
+    let k = cut-run _ opened (loop-test .taken) (c .wide-size .ensures) in omega (arith, k .part .start)
 
 part-check-run-start : tie.Need-part-check-run-start Inv-loop μ-loop
-part-check-run-start c = let k = cut-run _ (c .before .before .before .before .before .before .pre) (c .before .loop-test .taken) (c .wide-size .ensures) in k .part .start
+part-check-run-start c =
+    let loop-test = c .before .loop-test in
+    let opened = c .before .before .before .before .before .before .pre in
+    let k = cut-run _ opened (loop-test .taken) (c .wide-size .ensures) in k .part .start
 
 part-check-run-end : tie.Need-part-check-run-end Inv-loop μ-loop
-part-check-run-end c = let k = cut-run _ (c .before .before .before .before .before .before .pre) (c .before .loop-test .taken) (c .wide-size .ensures) in k .part .end
+part-check-run-end c =
+    let loop-test = c .before .loop-test in
+    let opened = c .before .before .before .before .before .before .pre in
+    let k = cut-run _ opened (loop-test .taken) (c .wide-size .ensures) in k .part .end
 
 check-run-requires : tie.Need-check-run-requires Inv-loop μ-loop
-check-run-requires c κs = let k = cut-run _ (c .before .before .before .before .before .before .before .pre) (c .before .before .loop-test .taken) (c .before .wide-size .ensures) in k .whole
+check-run-requires c κs =
+    let wide-size = c .before .wide-size in
+    let loop-test = c .before .before .loop-test in
+    let opened = c .before .before .before .before .before .before .before .pre in
+    let k = cut-run _ opened (loop-test .taken) (wide-size .ensures) in k .whole
 
 enum-told : tie.Need-enum-told Inv-loop μ-loop
 enum-told c = search needs
@@ -62,7 +75,13 @@ size16-requires : tie.Need-size16-requires Inv-loop μ-loop
 size16-requires c κs = search needs
 
 add-before : tie.Need-add-before Inv-loop μ-loop
-add-before c = let k = cut-run _ (c .before .before .before .before .before .before .before .before .before .before .before .pre) (c .before .before .before .before .before .before .loop-test .taken) (c .before .before .before .before .before .wide-size .ensures) in omega (arith, k .few, c .before .before .before .before .before .before .before .loop .inv .low, c .size16 .ensures, c .before .before .before .before .before .before .before .before .before .before .before .pre .few)
+add-before c =
+    let back = c .before .before .before .before .before in
+    let wide-size = back .wide-size in
+    let loop-test = back .before .loop-test in
+    let loop = back .before .before .loop in
+    let opened = back .before .before .before .before .before .before .pre in
+    let k = cut-run _ opened (loop-test .taken) (wide-size .ensures) in omega (arith, k .few, loop .inv .low, c .size16 .ensures, opened .few)
 
 add-r : tie.Need-add-r Inv-loop μ-loop
 add-r c = search needs
@@ -71,7 +90,23 @@ loop-less : tie.Need-loop-less Inv-loop μ-loop
 loop-less c = search needs
 
 loop-again : tie.Need-loop-again Inv-loop μ-loop
-loop-again c = let k = cut-run _ (c .before .before .before .before .before .before .before .before .before .before .before .pre) (c .before .before .before .before .before .before .loop-test .taken) (c .before .before .before .before .before .wide-size .ensures) in judging-more _ (c .before .before .before .before .before .before .before .loop .inv) (k .inside) (c .before .before .before .check-run .ensures ∙ ap (judgeRun _) (k .part .bytes)) (k .records) (c .before .enum-told .given .1) (k .few) (c .size16 .ensures)
+loop-again c =
+    let enum-told = c .before .enum-told in
+    let back = c .before .before .before in
+    let check-run = back .check-run in
+    let wide-size = back .before .before .wide-size in
+    let loop-test = back .before .before .before .loop-test in
+    let loop = back .before .before .before .before .loop in
+    let opened = back .before .before .before .before .before .before .before .before .pre in
+    let k = cut-run _ opened (loop-test .taken) (wide-size .ensures) in
+    judging-more _
+    (loop .inv)
+    (k .inside)
+    (check-run .ensures ∙ ap (judgeRun _) (k .part .bytes))
+    (k .records)
+    (enum-told .given .1)
+    (k .few)
+    (c .size16 .ensures)
 
 enum-known-p : tie.Need-enum-known-p Inv-loop μ-loop
 enum-known-p c = search needs
@@ -83,7 +118,17 @@ add-t31 : tie.Need-add-t31 Inv-loop μ-loop
 add-t31 c = search needs
 
 returns : tie.Need-returns Inv-loop μ-loop
-returns c = let k = cut-run _ (c .before .before .before .before .before .before .before .before .before .before .before .before .pre) (c .before .before .before .before .before .before .before .loop-test .taken) (c .before .before .before .before .before .before .wide-size .ensures) in judged-kind _ (c .before .before .before .before .before .before .before .before .loop .inv) (k .inside) (c .before .before .before .before .check-run .ensures ∙ ap (judgeRun _) (k .part .bytes)) (k .records) (c .before .before .p .given .1) (omega arith)
+returns c =
+    let back = c .before .before in
+    let p = back .p in
+    let back = back .before .before in
+    let check-run = back .check-run in
+    let wide-size = back .before .before .wide-size in
+    let loop-test = back .before .before .before .loop-test in
+    let loop = back .before .before .before .before .loop in
+    let opened = back .before .before .before .before .before .before .before .before .pre in
+    let k = cut-run _ opened (loop-test .taken) (wide-size .ensures) in
+    judged-kind _ (loop .inv) (k .inside) (check-run .ensures ∙ ap (judgeRun _) (k .part .bytes)) (k .records) (p .given .1) (omega arith)
 
 enum-known-p-2 : tie.Need-enum-known-p-2 Inv-loop μ-loop
 enum-known-p-2 c = search needs
@@ -95,10 +140,22 @@ add-t35 : tie.Need-add-t35 Inv-loop μ-loop
 add-t35 c = search needs
 
 returns-2 : tie.Need-returns-2 Inv-loop μ-loop
-returns-2 c = let k = cut-run _ (c .before .before .before .before .before .before .before .before .before .before .before .before .pre) (c .before .before .before .before .before .before .before .loop-test .taken) (c .before .before .before .before .before .before .wide-size .ensures) in judged-key _ (c .before .before .before .before .before .before .before .before .loop .inv) (k .inside) (c .before .before .before .before .check-run .ensures ∙ ap (judgeRun _) (k .part .bytes)) (k .records) (c .before .before .p2 .given .1) (omega arith)
+returns-2 c =
+    let back = c .before .before in
+    let p2 = back .p2 in
+    let back = back .before .before in
+    let check-run = back .check-run in
+    let wide-size = back .before .before .wide-size in
+    let loop-test = back .before .before .before .loop-test in
+    let loop = back .before .before .before .before .loop in
+    let opened = back .before .before .before .before .before .before .before .before .pre in
+    let k = cut-run _ opened (loop-test .taken) (wide-size .ensures) in
+    judged-key _ (loop .inv) (k .inside) (check-run .ensures ∙ ap (judgeRun _) (k .part .bytes)) (k .records) (p2 .given .1) (omega arith)
 
 returns-3 : tie.Need-returns-3 Inv-loop μ-loop
-returns-3 c = judged-end _ (c .before .loop .inv) (omega arith)
+returns-3 c =
+    let loop = c .before .loop in
+    judged-end _ (loop .inv) (omega arith)
 
 pub check-runs-spec : {M : Type 1} → statement M
 check-runs-spec =

@@ -10,13 +10,20 @@ tray-frame-requires : tie.Need-tray-frame-requires
 tray-frame-requires c κs = search needs
 
 check-runs-requires : tie.Need-check-runs-requires
-check-runs-requires c κs = opened _ (c .before .tray-frame .ensures) (c .if1 .taken)
+check-runs-requires c κs =
+    let tray-frame = c .before .tray-frame in
+    opened _ (tray-frame .ensures) (c .if1 .taken)
 
 returns : tie.Need-returns
-returns c = check-judged _ (sym (c .before .before .tray-frame .ensures .fits) ∙ c .before .if1 .taken) (c .check-runs .ensures)
+returns c =
+    let if1 = c .before .if1 in
+    let tray-frame = c .before .before .tray-frame in
+    check-judged _ (sym (tray-frame .ensures .fits) ∙ if1 .taken) (c .check-runs .ensures)
 
 returns-2 : tie.Need-returns-2
-returns-2 c = check-frame _ (sym (c .before .tray-frame .ensures .fits) ∙ c .if1 .left)
+returns-2 c =
+    let tray-frame = c .before .tray-frame in
+    check-frame _ (sym (tray-frame .ensures .fits) ∙ c .if1 .left)
 
 pub check-tray-spec : {M : Type 1} → statement M
 check-tray-spec = tie.close (tie.spec tray-frame-requires check-runs-requires returns returns-2)

@@ -10,15 +10,26 @@ use Rattle.standing.proofs.stands.Reads as stands-reads
 
 -- src/standing.rt:121:13
 stands-requires : tie.Need-stands-requires
-stands-requires c κs = (c .before .before .before .pre .0, (c .before .before .before .pre .1, c .before .if1 .taken, c .if2 .taken))
+stands-requires c κs =
+    let if1 = c .before .if1 in
+    let pre = c .before .before .before .pre in
+    let probing = c .before .before .before .pre .0 in
+    (probing, (pre .1, if1 .taken, c .if2 .taken))
 
 -- src/standing.rt:121:13
 returns : tie.Need-returns
-returns c = belongs-there (c .before .before .before .before .pre .0) _ (c .before .before .if1 .taken) (c .before .if2 .taken) (c .stands .ensures)
+returns c =
+    let if2 = c .before .if2 in
+    let if1 = c .before .before .if1 in
+    let probing = c .before .before .before .before .pre .0 in
+    belongs-there probing _ (if1 .taken) (if2 .taken) (c .stands .ensures)
 
 -- src/standing.rt:123:9
 returns-2 : tie.Need-returns-2
-returns-2 c = belongs-past (c .before .before .before .pre .0) _ (c .before .if1 .taken) (c .if2 .left)
+returns-2 c =
+    let if1 = c .before .if1 in
+    let probing = c .before .before .before .pre .0 in
+    belongs-past probing _ (if1 .taken) (c .if2 .left)
 
 -- src/standing.rt:127:13
 none-from-requires : tie.Need-none-from-requires
@@ -26,15 +37,27 @@ none-from-requires c κs = search needs
 
 -- src/standing.rt:127:13
 returns-3 : tie.Need-returns-3
-returns-3 c = belongs-end (c .before .before .before .before .before .pre .0) _ (c .before .before .before .if1 .left) (c .before .before .if3 .taken) (c .before .if4 .taken) (c .none-from .ensures)
+returns-3 c =
+    let if4 = c .before .if4 in
+    let if3 = c .before .before .if3 in
+    let if1 = c .before .before .before .if1 in
+    let probing = c .before .before .before .before .before .pre .0 in
+    belongs-end probing _ (if1 .left) (if3 .taken) (if4 .taken) (c .none-from .ensures)
 
 -- src/standing.rt:113:1
 returns-4 : tie.Need-returns-4
-returns-4 c = belongs-inner (c .before .before .before .before .pre .0) _ (c .before .before .if1 .left) (c .before .if3 .taken) (c .if4 .left)
+returns-4 c =
+    let if3 = c .before .if3 in
+    let if1 = c .before .before .if1 in
+    let probing = c .before .before .before .before .pre .0 in
+    belongs-inner probing _ (if1 .left) (if3 .taken) (c .if4 .left)
 
 -- src/standing.rt:113:1
 returns-5 : tie.Need-returns-5
-returns-5 c = belongs-beyond (c .before .before .before .pre .0) _ (c .before .if1 .left) (c .if3 .left)
+returns-5 c =
+    let if1 = c .before .if1 in
+    let probing = c .before .before .before .pre .0 in
+    belongs-beyond probing _ (if1 .left) (c .if3 .left)
 
 pub belongs-spec : {M : Type 1} → statement M
 belongs-spec =

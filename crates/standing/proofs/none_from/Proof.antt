@@ -44,11 +44,15 @@ loop-less c = omega arith
 
 -- src/standing.rt:56:5
 loop-again : tie.Need-loop-again Inv-loop μ-loop
-loop-again c = (omega arith, none-turn _ _ (omega arith) (c .higher .ensures) ∙ c .before .before .before .loop .inv .1)
+loop-again c =
+    let loop = c .before .before .before .loop in
+    (omega arith, none-turn _ _ (omega arith) (c .higher .ensures) ∙ loop .inv .1)
 
 -- src/standing.rt:50:1
 returns : tie.Need-returns Inv-loop μ-loop
-returns c = none-end _ _ (omega arith) ∙ c .before .loop .inv .1
+returns c =
+    let loop = c .before .loop in
+    none-end _ _ (omega arith) ∙ loop .inv .1
 
 pub none-from-spec : {M : Type 1} → statement M
 none-from-spec =

@@ -31,7 +31,9 @@ mul-ps c = omega arith
 
 -- src/standing.rt:33:9
 array-write-ps : tie.Need-array-write-ps Inv-loop μ-loop
-array-write-ps c = omega (arith, c .before .before .loop .inv .room)
+array-write-ps c =
+    let loop = c .before .before .loop in
+    omega (arith, loop .inv .room)
 
 -- src/standing.rt:34:9
 add-i : tie.Need-add-i Inv-loop μ-loop
@@ -43,11 +45,17 @@ loop-less c = omega arith
 
 -- src/standing.rt:31:5
 loop-again : tie.Need-loop-again Inv-loop μ-loop
-loop-again c = copy-more (c .before .before .loop .inv) (c .before .loop-test .taken)
+loop-again c =
+    let loop-test = c .before .loop-test in
+    let loop = c .before .before .loop in
+    copy-more (loop .inv) (loop-test .taken)
 
 -- src/standing.rt:26:1
 returns : tie.Need-returns Inv-loop μ-loop
-returns c = copy-end (c .before .loop .inv) (c .loop-test .left) (c .before .before .good .0 .1 .0 .1)
+returns c =
+    let loop = c .before .loop in
+    let t1-good = c .before .before .good .0 in
+    copy-end (loop .inv) (c .loop-test .left) (t1-good .1 .0 .1)
 
 pub place-numbers-spec : {M : Type 1} → statement M
 place-numbers-spec =

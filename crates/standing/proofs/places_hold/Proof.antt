@@ -74,7 +74,11 @@ wide32-requires c κs = search needs
 
 -- src/standing.rt:77:34
 add-if1 : tie.Need-add-if1 Inv-loop μ-loop
-add-if1 c = omega (arith, c .before .before .wide-162 .ensures .1, c .wide32 .ensures, c .before .shared-slice-known3 .given (c .before .before .before .before .before .before .before .loop .r - 1))
+add-if1 c =
+    let shared-slice-known3 = c .before .shared-slice-known3 in
+    let wide-162 = c .before .before .wide-162 in
+    let loop = c .before .before .before .before .before .before .before .loop in
+    omega (arith, wide-162 .ensures .1, c .wide32 .ensures, shared-slice-known3 .given (loop .r - 1))
 
 -- src/standing.rt:75:5
 loop-less : tie.Need-loop-less Inv-loop μ-loop
@@ -82,15 +86,48 @@ loop-less c = omega arith
 
 -- src/standing.rt:75:5
 loop-again : tie.Need-loop-again Inv-loop μ-loop
-loop-again c = (omega arith, sym (same-next _ _ (c .before .before .before .before .before .before .before .loop-test .taken) refl (sym (c .before .before .before .before .before .wide-16 .ensures .0) ∙ c .if1 .taken ∙ (wanted-run _ _ _ _ (c .before .before .before .before .before .before .before .before .before .before .before .before .pre .1) (omega arith) (c .before .before .before .wide-162 .ensures .0 ∙ c .before .before .before .before .big2 .ensures) (c .before .wide32 .ensures)))) ∙ c .before .before .before .before .before .before .before .before .loop .inv .1)
+loop-again c =
+    let wide32 = c .before .wide32 in
+    let back = c .before .before .before in
+    let wide-162 = back .wide-162 in
+    let big2 = back .before .big2 in
+    let wide-16 = back .before .before .wide-16 in
+    let back = back .before .before .before .before in
+    let loop-test = back .loop-test in
+    let loop = back .before .loop in
+    let pre = back .before .before .before .before .before .pre in (
+      omega arith,
+      sym
+          (same-next _ _ (loop-test .taken) refl
+          (sym (wide-16 .ensures .0)
+          ∙ c .if1 .taken
+          ∙ (wanted-run _ _ _ _ (pre .1) (omega arith) (wide-162 .ensures .0 ∙ big2 .ensures) (wide32 .ensures))))
+          ∙ loop .inv .1,
+    )
 
 -- src/standing.rt:80:9
 returns : tie.Need-returns Inv-loop μ-loop
-returns c = sym (same-stop _ _ (c .before .before .before .before .before .before .before .loop-test .taken) refl (λ z. c .if1 .left (c .before .before .before .before .before .wide-16 .ensures .0 ∙ z ∙ sym (wanted-run _ _ _ _ (c .before .before .before .before .before .before .before .before .before .before .before .before .pre .1) (omega arith) (c .before .before .before .wide-162 .ensures .0 ∙ c .before .before .before .before .big2 .ensures) (c .before .wide32 .ensures))))) ∙ c .before .before .before .before .before .before .before .before .loop .inv .1
+returns c =
+    let wide32 = c .before .wide32 in
+    let back = c .before .before .before in
+    let wide-162 = back .wide-162 in
+    let big2 = back .before .big2 in
+    let wide-16 = back .before .before .wide-16 in
+    let back = back .before .before .before .before in
+    let loop-test = back .loop-test in
+    let loop = back .before .loop in
+    let pre = back .before .before .before .before .before .pre in
+    sym
+    (same-stop _ _ (loop-test .taken) refl
+    (λ z. c .if1 .left
+    (wide-16 .ensures .0 ∙ z ∙ sym (wanted-run _ _ _ _ (pre .1) (omega arith) (wide-162 .ensures .0 ∙ big2 .ensures) (wide32 .ensures)))))
+    ∙ loop .inv .1
 
 -- src/standing.rt:70:1
 returns-2 : tie.Need-returns-2 Inv-loop μ-loop
-returns-2 c = same-end _ _ (c .loop-test .left) ∙ c .before .loop .inv .1
+returns-2 c =
+    let loop = c .before .loop in
+    same-end _ _ (c .loop-test .left) ∙ loop .inv .1
 
 pub places-hold-spec : {M : Type 1} → statement M
 places-hold-spec =

@@ -23,7 +23,11 @@ wide-size-requires c κs = search needs
 
 -- src/standing.rt:105:25
 add-tally : tie.Need-add-tally
-add-tally c = omega (arith, segment-inside (c .before .before .before .pre .0) (c .before .before .before .pre .1 .1) (c .before .segment-at .ensures), c .wide-size .ensures)
+add-tally c =
+    let segment-at = c .before .segment-at in
+    let pre = c .before .before .before .pre in
+    let probing = c .before .before .before .pre .0 in
+    omega (arith, segment-inside probing (pre .1 .1) (segment-at .ensures), c .wide-size .ensures)
 
 -- src/standing.rt:105:34
 mul-tally : tie.Need-mul-tally
@@ -31,31 +35,82 @@ mul-tally c = omega (arith, c .wide-size .ensures)
 
 -- src/standing.rt:105:25
 add-tally-2 : tie.Need-add-tally-2
-add-tally-2 c = omega (arith, segment-inside (c .before .before .before .pre .0) (c .before .before .before .pre .1 .1) (c .before .segment-at .ensures), c .wide-size .ensures)
+add-tally-2 c =
+    let segment-at = c .before .segment-at in
+    let pre = c .before .before .before .pre in
+    let probing = c .before .before .before .pre .0 in
+    omega (arith, segment-inside probing (pre .1 .1) (segment-at .ensures), c .wide-size .ensures)
 
 -- src/standing.rt:105:16
 tally-requires : tie.Need-tally-requires
-tally-requires c κs = omega (arith, segment-inside (c .before .before .before .pre .0) (c .before .before .before .pre .1 .1) (c .before .segment-at .ensures), c .wide-size .ensures)
+tally-requires c κs =
+    let segment-at = c .before .segment-at in
+    let pre = c .before .before .before .pre in
+    let probing = c .before .before .before .pre .0 in
+    omega (arith, segment-inside probing (pre .1 .1) (segment-at .ensures), c .wide-size .ensures)
 
 -- src/standing.rt:106:30
 slice-aggregate-places-hold : tie.Need-slice-aggregate-places-hold
-slice-aggregate-places-hold c = sym (c .before .tally .ensures .room)
+slice-aggregate-places-hold c =
+    let tally = c .before .tally in
+    sym (tally .ensures .room)
 
 -- src/standing.rt:106:8
 places-hold-requires : tie.Need-places-hold-requires
-places-hold-requires c κs = (omega (arith, segment-inside (c .before .before .before .before .before .pre .0) (c .before .before .before .before .before .pre .1 .1) (c .before .before .before .segment-at .ensures)), c .before .before .before .before .before .pre .1 .0, c .before .tally .ensures .room)
+places-hold-requires c κs =
+    let tally = c .before .tally in
+    let segment-at = c .before .before .before .segment-at in
+    let pre = c .before .before .before .before .before .pre in
+    let probing = c .before .before .before .before .before .pre .0 in
+    (omega (arith, segment-inside probing (pre .1 .1) (segment-at .ensures)), pre .1 .0, tally .ensures .room)
 
 -- src/standing.rt:107:9
 none-from-requires : tie.Need-none-from-requires
-none-from-requires c κs = omega (arith, c .before .before .before .before .wide-size .ensures)
+none-from-requires c κs =
+    let wide-size = c .before .before .before .before .wide-size in
+    omega (arith, wide-size .ensures)
 
 -- src/standing.rt:107:9
 returns : tie.Need-returns
-returns c = stands-told (c .before .before .before .before .before .before .before .before .pre .0) (c .before .before .before .before .before .before .before .before .pre .1 .0) _ _ _ (c .before .before .before .before .before .before .segment-at .ensures) (omega (arith, c .before .before .before .before .before .wide-size .ensures)) (c .before .before .before .before .tally .ensures) (c .before .before .places-hold .ensures) (c .before .if1 .taken) (c .before .before .before .before .before .wide-size .ensures) (c .none-from .ensures)
+returns c =
+    let if1 = c .before .if1 in
+    let back = c .before .before in
+    let places-hold = back .places-hold in
+    let back = back .before .before in
+    let tally = back .tally in
+    let wide-size = back .before .wide-size in
+    let segment-at = back .before .before .segment-at in
+    let pre = back .before .before .before .before .pre in
+    let probing = back .before .before .before .before .pre .0 in
+    stands-told probing
+    (pre .1 .0)
+    _ _ _
+    (segment-at .ensures)
+    (omega (arith, wide-size .ensures))
+    (tally .ensures)
+    (places-hold .ensures)
+    (if1 .taken)
+    (wide-size .ensures)
+    (c .none-from .ensures)
 
 -- src/standing.rt:98:1
 returns-2 : tie.Need-returns-2
-returns-2 c = stands-off (c .before .before .before .before .before .before .before .pre .0) (c .before .before .before .before .before .before .before .pre .1 .0) _ _ _ (c .before .before .before .before .before .segment-at .ensures) (omega (arith, c .before .before .before .before .wide-size .ensures)) (c .before .before .before .tally .ensures) (c .before .places-hold .ensures) (c .if1 .left)
+returns-2 c =
+    let places-hold = c .before .places-hold in
+    let back = c .before .before .before in
+    let tally = back .tally in
+    let wide-size = back .before .wide-size in
+    let segment-at = back .before .before .segment-at in
+    let pre = back .before .before .before .before .pre in
+    let probing = back .before .before .before .before .pre .0 in
+    stands-off probing
+    (pre .1 .0)
+    _ _ _
+    (segment-at .ensures)
+    (omega (arith, wide-size .ensures))
+    (tally .ensures)
+    (places-hold .ensures)
+    (c .if1 .left)
 
 pub stands-spec : {M : Type 1} → statement M
 stands-spec =

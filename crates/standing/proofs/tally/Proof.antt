@@ -26,11 +26,15 @@ loop-holds c = (omega arith, tally-none _ _)
 
 -- src/standing.rt:72:19
 add-v : tie.Need-add-v Inv-loop μ-loop
-add-v c = omega (arith, c .before .before .wide-size .ensures)
+add-v c =
+    let wide-size = c .before .before .wide-size in
+    omega (arith, wide-size .ensures)
 
 -- src/standing.rt:72:17
 shared-slice-read-v : tie.Need-shared-slice-read-v Inv-loop μ-loop
-shared-slice-read-v c = omega (arith, c .before .before .before .wide-size .ensures)
+shared-slice-read-v c =
+    let wide-size = c .before .before .before .wide-size in
+    omega (arith, wide-size .ensures)
 
 -- src/standing.rt:73:13
 wide-size-requires-2 : tie.Need-wide-size-requires-2 Inv-loop μ-loop
@@ -38,11 +42,16 @@ wide-size-requires-2 c κs = search needs
 
 -- src/standing.rt:74:9
 array-read-seen : tie.Need-array-read-seen Inv-loop μ-loop
-array-read-seen c = omega (arith, c .wide-size2 .ensures, c .before .before .before .loop .inv .1 .room)
+array-read-seen c =
+    let loop = c .before .before .before .loop in
+    omega (arith, c .wide-size2 .ensures, loop .inv .1 .room)
 
 -- src/standing.rt:74:9
 add-seen : tie.Need-add-seen Inv-loop μ-loop
-add-seen c = omega (arith, tally-low (c .before .before .before .loop .inv .1) (c .wide-size2 .result) (omega (arith, c .wide-size2 .ensures)), c .before .before .before .before .wide-size .ensures)
+add-seen c =
+    let loop = c .before .before .before .loop in
+    let wide-size = c .before .before .before .before .wide-size in
+    omega (arith, tally-low (loop .inv .1) (c .wide-size2 .result) (omega (arith, c .wide-size2 .ensures)), wide-size .ensures)
 
 -- src/standing.rt:74:9
 array-write-seen : tie.Need-array-write-seen Inv-loop μ-loop
@@ -58,11 +67,17 @@ loop-less c = omega arith
 
 -- src/standing.rt:71:5
 loop-again : tie.Need-loop-again Inv-loop μ-loop
-loop-again c = (omega (arith, c .before .before .before .before .wide-size .ensures), tally-more (c .before .before .before .loop .inv .1) refl (c .wide-size2 .ensures))
+loop-again c =
+    let loop = c .before .before .before .loop in
+    let wide-size = c .before .before .before .before .wide-size in
+    (omega (arith, wide-size .ensures), tally-more (loop .inv .1) refl (c .wide-size2 .ensures))
 
 -- src/standing.rt:64:1
 returns : tie.Need-returns Inv-loop μ-loop
-returns c = tally-all (c .before .loop .inv .1) (c .before .loop .inv .0) (omega (arith, c .before .before .wide-size .ensures, c .loop-test .left))
+returns c =
+    let loop = c .before .loop in
+    let wide-size = c .before .before .wide-size in
+    tally-all (loop .inv .1) (loop .inv .0) (omega (arith, wide-size .ensures, c .loop-test .left))
 
 pub tally-spec : {M : Type 1} → statement M
 tally-spec =

@@ -21,13 +21,44 @@ put-records-requires : tie.Need-put-records-requires
 put-records-requires c κs = search needs
 
 leader-requires : tie.Need-leader-requires
-leader-requires c κs = (c .before .before .before .before .before .before .before .before .before .before .before .before .before .before .put-records .ensures .1 .leading .room-tops, c .before .before .before .before .before .before .before .before .before .before .before .before .before .before .put-records .ensures .1 .leading .room-firsts, omega (arith, c .before .before .before .before .before .before .before .before .before .before .before .before .before .before .before .before .before .before .before .before .before .before .before .before .before .before .before .before .before .before .before .pre .0 .caching .reading .few, c .before .before .before .before .before .before .before .before .before .before .before .before .before .before .before .before .before .before .before .before .before .before .before .before .before .before .before .before .before .before .before .pre .1))
+leader-requires c κs =
+    let back = c .before .before .before .before .before .before .before .before .before .before .before .before .before .before in
+    let put-records = back .put-records in
+    let back =
+    back .before .before .before .before .before .before .before .before .before .before .before .before .before .before .before .before .before in
+    let pre = back .pre in
+    let heading = back .pre .0 in (
+      put-records .ensures .1 .leading .room-tops,
+      put-records .ensures .1 .leading .room-firsts,
+      omega (arith, heading .caching .reading .few, pre .1),
+    )
 
 choose-requires : tie.Need-choose-requires
-choose-requires c κs = (c .before .before .before .before .before .before .before .before .before .before .before .before .before .before .before .before .put-records .ensures .1 .caching .reading .room-counts, c .before .before .before .before .before .before .before .before .before .before .before .before .before .before .before .before .put-records .ensures .1 .caching .reading .room-places, omega (arith, c .before .before .before .before .before .before .before .before .before .before .before .before .before .before .before .before .before .before .before .before .before .before .before .before .before .before .before .before .before .before .before .before .before .pre .0 .caching .reading .few, c .before .before .before .before .before .before .before .before .before .before .before .before .before .before .before .before .before .before .before .before .before .before .before .before .before .before .before .before .before .before .before .before .before .pre .1))
+choose-requires c κs =
+    let back = c .before .before .before .before .before .before .before .before .before .before .before .before .before .before .before .before in
+    let put-records = back .put-records in
+    let back =
+    back .before .before .before .before .before .before .before .before .before .before .before .before .before .before .before .before .before in
+    let pre = back .pre in
+    let heading = back .pre .0 in (
+      put-records .ensures .1 .caching .reading .room-counts,
+      put-records .ensures .1 .caching .reading .room-places,
+      omega (arith, heading .caching .reading .few, pre .1),
+    )
 
 cut-back-requires : tie.Need-cut-back-requires
-cut-back-requires c κs = (steps-select (omega (arith, c .before .before .before .before .before .before .before .before .before .before .before .before .before .before .before .before .before .before .before .before .before .before .before .before .before .before .before .before .before .before .before .before .before .before .before .before .before .before .before .before .pre .0 .caching .reading .few, c .before .before .before .before .before .before .before .before .before .before .before .before .before .before .before .before .before .before .before .before .before .before .before .before .before .before .before .before .before .before .before .before .before .before .before .before .before .before .before .before .pre .1)) (omega (arith, c .before .before .before .before .before .before .before .before .before .before .before .before .before .before .before .before .before .before .before .before .before .before .before .before .before .before .before .before .before .before .before .before .before .before .before .before .before .before .before .before .pre .1)) (c .before .before .before .before .before .before .before .before .before .before .before .before .before .before .before .before .before .before .before .before .before .before .before .put-records .ensures .0 .steps), c .before .before .before .before .before .before .before .before .before .before .before .before .before .before .before .before .before .before .before .before .before .before .before .put-records .ensures .1 .caching .reading .room-places)
+cut-back-requires c κs =
+    let back =
+    c .before .before .before .before .before .before .before .before .before .before .before .before .before .before .before .before .before .before
+    .before .before .before .before .before in
+    let put-records = back .put-records in
+    let back =
+    back .before .before .before .before .before .before .before .before .before .before .before .before .before .before .before .before .before in
+    let pre = back .pre in
+    let heading = back .pre .0 in (
+      steps-select (omega (arith, heading .caching .reading .few, pre .1)) (omega (arith, pre .1)) (put-records .ensures .0 .steps),
+      put-records .ensures .1 .caching .reading .room-places,
+    )
 
 same-length : tie.Need-same-length
 same-length c = search needs
@@ -48,7 +79,30 @@ same-length-6 : tie.Need-same-length-6
 same-length-6 c = search needs
 
 returns : tie.Need-returns
-returns c = (fills-cut (c .before .before .before .before .before .before .before .before .before .before .before .before .before .before .before .before .before .before .before .before .before .before .before .before .before .before .before .before .before .before .before .before .other-key .ensures) (c .before .before .before .before .before .before .before .before .before .before .before .before .before .before .before .before .before .before .before .before .before .before .before .before .before .before .put-records .ensures .0) (next-run (c .before .before .before .before .before .before .before .before .before .before .before .before .before .before .before .before .before .before .before .before .before .before .before .before .before .before .put-records .ensures .1) (c .before .before .before .before .before .before .before .before .before .before .before .before .before .before .before .before .before .before .before .before .before .before .before .before .before .before .before .before .before .before .before .before .before .before .before .before .before .before .before .before .before .before .before .pre .1 .0) (c .before .before .before .before .before .before .before .before .before .before .before .leader .ensures) (c .before .before .before .before .before .before .before .before .before .choose .ensures) (c .before .before .before .before .before .before .before .before .if1 .taken)) (c .before .before .before .before .before .if2 .taken) (c .before .before .cut-back .ensures .0), (c .before .before .cut-back .ensures .1 .0, omega (arith, c .before .before .cut-back .ensures .1, c .before .before .before .before .before .before .before .before .before .before .before .before .before .before .before .before .before .before .before .before .before .before .before .before .before .before .put-records .ensures .0 .inside)))
+returns c =
+    let back = c .before .before in
+    let cut-back = back .cut-back in
+    let back = back .before .before .before in
+    let if2 = back .if2 in
+    let back = back .before .before .before in
+    let if1 = back .if1 in
+    let choose = back .before .choose in
+    let back = back .before .before .before in
+    let leader = back .leader in
+    let back = back .before .before .before .before .before .before .before .before .before .before .before .before .before .before .before in
+    let put-records = back .put-records in
+    let other-key = back .before .before .before .before .before .before .other-key in
+    let pre =
+    back .before .before .before .before .before .before .before .before .before .before .before .before .before .before .before .before .before .pre
+    in (
+      fills-cut
+          (other-key .ensures)
+          (put-records .ensures .0)
+          (next-run (put-records .ensures .1) (pre .1 .0) (leader .ensures) (choose .ensures) (if1 .taken))
+          (if2 .taken)
+          (cut-back .ensures .0),
+      (cut-back .ensures .1 .0, omega (arith, cut-back .ensures .1, put-records .ensures .0 .inside)),
+    )
 
 same-length-7 : tie.Need-same-length-7
 same-length-7 c = search needs
@@ -69,7 +123,25 @@ same-length-12 : tie.Need-same-length-12
 same-length-12 c = search needs
 
 returns-2 : tie.Need-returns-2
-returns-2 c = (fills-other (c .before .before .before .before .before .before .before .before .before .before .before .before .before .before .before .before .before .before .before .before .before .before .before .before .before .before .before .other-key .ensures) (c .before .before .before .before .before .before .before .before .before .before .before .before .before .before .before .before .before .before .before .before .before .put-records .ensures .0) (next-run (c .before .before .before .before .before .before .before .before .before .before .before .before .before .before .before .before .before .before .before .before .before .put-records .ensures .1) (c .before .before .before .before .before .before .before .before .before .before .before .before .before .before .before .before .before .before .before .before .before .before .before .before .before .before .before .before .before .before .before .before .before .before .before .before .before .before .pre .1 .0) (c .before .before .before .before .before .before .leader .ensures) (c .before .before .before .before .choose .ensures) (c .before .before .before .if1 .taken)) (c .if2 .left), (c .before .before .before .before .before .before .before .before .before .before .before .before .before .before .before .before .before .before .before .before .before .put-records .ensures .0 .begun, c .before .before .before .before .before .before .before .before .before .before .before .before .before .before .before .before .before .before .before .before .before .put-records .ensures .0 .inside))
+returns-2 c =
+    let back = c .before .before .before in
+    let if1 = back .if1 in
+    let choose = back .before .choose in
+    let back = back .before .before .before in
+    let leader = back .leader in
+    let back = back .before .before .before .before .before .before .before .before .before .before .before .before .before .before .before in
+    let put-records = back .put-records in
+    let other-key = back .before .before .before .before .before .before .other-key in
+    let pre =
+    back .before .before .before .before .before .before .before .before .before .before .before .before .before .before .before .before .before .pre
+    in (
+      fills-other
+          (other-key .ensures)
+          (put-records .ensures .0)
+          (next-run (put-records .ensures .1) (pre .1 .0) (leader .ensures) (choose .ensures) (if1 .taken))
+          (c .if2 .left),
+      (put-records .ensures .0 .begun, put-records .ensures .0 .inside),
+    )
 
 same-length-13 : tie.Need-same-length-13
 same-length-13 c = search needs
@@ -90,7 +162,22 @@ same-length-18 : tie.Need-same-length-18
 same-length-18 c = search needs
 
 returns-3 : tie.Need-returns-3
-returns-3 c = (fills-over (c .before .before .before .before .before .before .before .before .before .before .before .before .before .before .before .before .before .before .before .before .before .before .before .before .other-key .ensures) (c .before .before .before .before .before .before .before .before .before .before .before .before .before .before .before .before .before .before .put-records .ensures .0) (next-none (c .before .before .before .before .before .before .before .before .before .before .before .before .before .before .before .before .before .before .put-records .ensures .1) (c .before .before .before .before .before .before .before .before .before .before .before .before .before .before .before .before .before .before .before .before .before .before .before .before .before .before .before .before .before .before .before .before .before .before .before .pre .1 .0) (c .before .before .before .leader .ensures) (c .before .choose .ensures) (c .if1 .left)), (c .before .before .before .before .before .before .before .before .before .before .before .before .before .before .before .before .before .before .put-records .ensures .0 .begun, c .before .before .before .before .before .before .before .before .before .before .before .before .before .before .before .before .before .before .put-records .ensures .0 .inside))
+returns-3 c =
+    let choose = c .before .choose in
+    let back = c .before .before .before in
+    let leader = back .leader in
+    let back = back .before .before .before .before .before .before .before .before .before .before .before .before .before .before .before in
+    let put-records = back .put-records in
+    let other-key = back .before .before .before .before .before .before .other-key in
+    let pre =
+    back .before .before .before .before .before .before .before .before .before .before .before .before .before .before .before .before .before .pre
+    in (
+      fills-over
+          (other-key .ensures)
+          (put-records .ensures .0)
+          (next-none (put-records .ensures .1) (pre .1 .0) (leader .ensures) (choose .ensures) (c .if1 .left)),
+      (put-records .ensures .0 .begun, put-records .ensures .0 .inside),
+    )
 
 pub put-keys-spec : {M : Type 1} → statement M
 put-keys-spec =

@@ -20,7 +20,9 @@ mul-a : tie.Need-mul-a
 mul-a c = search needs
 
 shared-slice-read-a : tie.Need-shared-slice-read-a
-shared-slice-read-a c = omega (arith, c .before .before .before .before .before .before .before .before .before .before .pre .0 .caching .reading .at, c .before .before .before .before .before .before .before .before .before .before .pre .0 .caching .reading)
+shared-slice-read-a c =
+    let heading = c .before .before .before .before .before .before .before .before .before .before .pre .0 in
+    omega (arith, heading .caching .reading .at, heading .caching .reading)
 
 add-e : tie.Need-add-e
 add-e c = search needs
@@ -29,37 +31,81 @@ mul-e : tie.Need-mul-e
 mul-e c = search needs
 
 shared-slice-read-e : tie.Need-shared-slice-read-e
-shared-slice-read-e c = omega (arith, c .before .before .before .before .before .before .before .before .before .before .before .pre .0 .caching .reading .at, c .before .before .before .before .before .before .before .before .before .before .before .pre .0 .caching .reading)
+shared-slice-read-e c =
+    let heading = c .before .before .before .before .before .before .before .before .before .before .before .pre .0 in
+    omega (arith, heading .caching .reading .at, heading .caching .reading)
 
 sub-kind-at : tie.Need-sub-kind-at
-sub-kind-at c = run-cut (c .before .before .before .before .before .before .before .before .before .before .before .pre .0 .caching .reading) (c .before .before .before .before .before .before .before .before .before .before .before .pre .1 .0) (c .before .before .wide-size .ensures) .start
+sub-kind-at c =
+    let wide-size = c .before .before .wide-size in
+    let back = c .before .before .before .before .before .before .before .before .before .before .before in
+    let pre = back .pre in
+    let heading = back .pre .0 in
+    run-cut (heading .caching .reading) (pre .1 .0) (wide-size .ensures) .start
 
 part-kind-at-start : tie.Need-part-kind-at-start
-part-kind-at-start c = run-cut (c .before .before .before .before .before .before .before .before .before .before .before .pre .0 .caching .reading) (c .before .before .before .before .before .before .before .before .before .before .before .pre .1 .0) (c .before .before .wide-size .ensures) .start
+part-kind-at-start c =
+    let wide-size = c .before .before .wide-size in
+    let back = c .before .before .before .before .before .before .before .before .before .before .before in
+    let pre = back .pre in
+    let heading = back .pre .0 in
+    run-cut (heading .caching .reading) (pre .1 .0) (wide-size .ensures) .start
 
 part-kind-at-end : tie.Need-part-kind-at-end
-part-kind-at-end c = run-cut (c .before .before .before .before .before .before .before .before .before .before .before .pre .0 .caching .reading) (c .before .before .before .before .before .before .before .before .before .before .before .pre .1 .0) (c .before .before .wide-size .ensures) .end
+part-kind-at-end c =
+    let wide-size = c .before .before .wide-size in
+    let back = c .before .before .before .before .before .before .before .before .before .before .before in
+    let pre = back .pre in
+    let heading = back .pre .0 in
+    run-cut (heading .caching .reading) (pre .1 .0) (wide-size .ensures) .end
 
 mul-t20 : tie.Need-mul-t20
 mul-t20 c = search needs
 
 slice-read-t25 : tie.Need-slice-read-t25
-slice-read-t25 c = omega (arith, c .before .before .before .before .before .before .before .before .before .before .before .before .before .pre .0 .caching .reading)
+slice-read-t25 c =
+    let heading = c .before .before .before .before .before .before .before .before .before .before .before .before .before .pre .0 in
+    omega (arith, heading .caching .reading)
 
 kind-at-requires : tie.Need-kind-at-requires
-kind-at-requires c κs = let v = place-low (c .before .before .before .before .before .before .before .before .before .before .before .before .before .pre .0 .caching .reading) (c .before .before .before .before .before .before .before .before .before .before .before .before .before .pre .1 .0) (c .before .before .before .before .wide-size .ensures) (c .before .before .before .before .before .before .before .before .before .before .before .before .before .pre .1 .1) in let k = run-cut (c .before .before .before .before .before .before .before .before .before .before .before .before .before .pre .0 .caching .reading) (c .before .before .before .before .before .before .before .before .before .before .before .before .before .pre .1 .0) (c .before .before .before .before .wide-size .ensures) in omega (arith, k .whole)
+kind-at-requires c κs =
+    let back = c .before .before .before .before in
+    let wide-size = back .wide-size in
+    let back = back .before .before .before .before .before .before .before .before .before in
+    let pre = back .pre in
+    let heading = back .pre .0 in
+    let v = place-low (heading .caching .reading) (pre .1 .0) (wide-size .ensures) (pre .1 .1) in
+    let k = run-cut (heading .caching .reading) (pre .1 .0) (wide-size .ensures) in omega (arith, k .whole)
 
 advance-requires : tie.Need-advance-requires
-advance-requires c κs = (c .before .before .before .before .before .before .before .before .before .before .before .before .before .before .before .before .before .before .before .pre .0, (c .before .before .before .before .before .before .before .before .before .before .before .before .before .before .before .before .before .before .before .pre .1 .0, c .before .before .before .before .before .before .before .before .before .before .before .before .before .before .before .before .before .before .before .pre .1 .1))
+advance-requires c κs =
+    let back =
+    c .before .before .before .before .before .before .before .before .before .before .before .before .before .before .before .before .before .before
+    .before in
+    let pre = back .pre in
+    let heading = back .pre .0 in
+    (heading, (pre .1 .0, pre .1 .1))
 
 gone-mark-requires : tie.Need-gone-mark-requires
 gone-mark-requires c κs = search needs
 
 add-result : tie.Need-add-result
-add-result c = omega (arith, mark-low (c .before .before .before .before .before .before .before .before .before .before .before .before .before .before .before .before .before .kind-at .result) (c .gone-mark .ensures), c .before .before .before .before .before .before .before .before .before .before .before .before .before .before .before .before .before .before .before .before .before .before .before .before .before .before .before .before .before .before .before .pre .1)
+add-result c =
+    let back =
+    c .before .before .before .before .before .before .before .before .before .before .before .before .before .before .before .before .before in
+    let kind-at = back .kind-at in
+    let pre = back .before .before .before .before .before .before .before .before .before .before .before .before .before .before .pre in
+    omega (arith, mark-low (kind-at .result) (c .gone-mark .ensures), pre .1)
 
 add-result-2 : tie.Need-add-result-2
-add-result-2 c = omega (arith, mark-low (c .before .before .before .before .before .before .before .before .before .before .before .before .before .before .before .before .before .kind-at .result) (c .gone-mark .ensures), c .before .before .before .before .before .before .before .before .before .before .before .before .before .before .before .before .before .before .before .before .before .before .before .before .before .before .before .before .before .before .before .pre .1, c .before .before .before .before .before .before .before .before .before .before .before .before .before .before .before .before .before .before .before .before .before .before .before .before .before .before .before .before .before .before .before .pre .0 .caching .reading)
+add-result-2 c =
+    let back =
+    c .before .before .before .before .before .before .before .before .before .before .before .before .before .before .before .before .before in
+    let kind-at = back .kind-at in
+    let back = back .before .before .before .before .before .before .before .before .before .before .before .before .before .before in
+    let pre = back .pre in
+    let heading = back .pre .0 in
+    omega (arith, mark-low (kind-at .result) (c .gone-mark .ensures), pre .1, heading .caching .reading)
 
 same-length : tie.Need-same-length
 same-length c = search needs
@@ -77,7 +123,23 @@ same-length-5 : tie.Need-same-length-5
 same-length-5 c = search needs
 
 returns : tie.Need-returns
-returns c = (spelled _ _ _ (c .before .before .before .before .before .before .before .before .before .before .before .before .before .before .before .before .before .before .before .before .before .before .wide-size .ensures) (run-cut (c .before .before .before .before .before .before .before .before .before .before .before .before .before .before .before .before .before .before .before .before .before .before .before .before .before .before .before .before .before .before .before .pre .0 .caching .reading) (c .before .before .before .before .before .before .before .before .before .before .before .before .before .before .before .before .before .before .before .before .before .before .before .before .before .before .before .before .before .before .before .pre .1 .0) (c .before .before .before .before .before .before .before .before .before .before .before .before .before .before .before .before .before .before .before .before .before .before .wide-size .ensures) .bytes) (c .before .before .before .before .before .before .before .before .before .before .before .before .before .before .before .before .before .kind-at .ensures) (c .gone-mark .ensures), (c .before .before .before .before .before .before .before .before .before .before .before .advance .ensures .0, c .before .before .before .before .before .before .before .before .before .before .before .advance .ensures .1))
+returns c =
+    let back = c .before .before .before .before .before .before .before .before .before .before .before in
+    let advance = back .advance in
+    let back = back .before .before .before .before .before .before in
+    let kind-at = back .kind-at in
+    let back = back .before .before .before .before .before in
+    let wide-size = back .wide-size in
+    let back = back .before .before .before .before .before .before .before .before .before in
+    let pre = back .pre in
+    let heading = back .pre .0 in (
+      spelled _ _ _
+          (wide-size .ensures)
+          (run-cut (heading .caching .reading) (pre .1 .0) (wide-size .ensures) .bytes)
+          (kind-at .ensures)
+          (c .gone-mark .ensures),
+      (advance .ensures .0, advance .ensures .1),
+    )
 
 pub take-record-spec : {M : Type 1} → statement M
 take-record-spec =

@@ -38,40 +38,170 @@ add-w-2 : tie.Need-add-w-2 Inv-loop μ-loop
 add-w-2 c = omega arith
 
 loop-holds : tie.Need-loop-holds Inv-loop μ-loop
-loop-holds c = (sounded-reading (c .before .before .before .before .before .pre) refl, merging-none _ (sounded-ready (c .before .before .before .before .before .pre)) (c .before .before .before .before .before .pre .records), refl)
+loop-holds c =
+    let sounded = c .before .before .before .before .before .pre in
+    (sounded-reading sounded refl, merging-none _ (sounded-ready sounded) (sounded .records), refl)
 
 slice-aggregate-write-segment : tie.Need-slice-aggregate-write-segment Inv-loop μ-loop
-slice-aggregate-write-segment c = sym (c .before .before .before .before .before .before .before .before .pre .opened .room)
+slice-aggregate-write-segment c =
+    let sounded = c .before .before .before .before .before .before .before .before .pre in
+    sym (sounded .opened .room)
 
 slice-aggregate-write-segment-2 : tie.Need-slice-aggregate-write-segment-2 Inv-loop μ-loop
-slice-aggregate-write-segment-2 c = sym (c .before .before .before .before .before .before .before .before .before .pre .opened .at .room)
+slice-aggregate-write-segment-2 c =
+    let sounded = c .before .before .before .before .before .before .before .before .before .pre in
+    sym (sounded .opened .at .room)
 
 slice-aggregate-write-segment-3 : tie.Need-slice-aggregate-write-segment-3 Inv-loop μ-loop
-slice-aggregate-write-segment-3 c = sym (c .before .before .before .before .loop .inv .0 .room-places)
+slice-aggregate-write-segment-3 c =
+    let loop = c .before .before .before .before .loop in
+    sym (loop .inv .0 .room-places)
 
 array-borrow-prefix-stretch : tie.Need-array-borrow-prefix-stretch Inv-loop μ-loop
-array-borrow-prefix-stretch c = omega (arith, c .before .before .before .before .before .before .before .before .before .before .pre .opened .few, c .before .before .before .before .before .before .before .before .before .before .pre .most, c .before .before .before .before .loop .inv .2, c .before .before .before .before .before .before .wide-size .ensures, c .before .before .before .before .before .wide-size2 .ensures)
+array-borrow-prefix-stretch c =
+    let back = c .before .before .before .before in
+    let loop = back .loop in
+    let wide-size2 = back .before .wide-size2 in
+    let wide-size = back .before .before .wide-size in
+    let sounded = back .before .before .before .before .before .before .pre in
+    omega (arith, sounded .opened .few, sounded .most, loop .inv .2, wide-size .ensures, wide-size2 .ensures)
 
 slice-aggregate-write-segment-4 : tie.Need-slice-aggregate-write-segment-4 Inv-loop μ-loop
-slice-aggregate-write-segment-4 c = sym (front-long _ _ (omega (arith, c .before .before .before .before .before .before .before .before .before .before .before .pre .opened .few, c .before .before .before .before .before .before .before .before .before .before .before .pre .most, c .before .before .before .before .before .loop .inv .2, c .before .before .before .before .before .before .before .wide-size .ensures, c .before .before .before .before .before .before .wide-size2 .ensures)) refl)
+slice-aggregate-write-segment-4 c =
+    let back = c .before .before .before .before .before in
+    let loop = back .loop in
+    let wide-size2 = back .before .wide-size2 in
+    let wide-size = back .before .before .wide-size in
+    let sounded = back .before .before .before .before .before .before .pre in
+    sym (front-long _ _ (omega (arith, sounded .opened .few, sounded .most, loop .inv .2, wide-size .ensures, wide-size2 .ensures)) refl)
 
 write-segment-requires : tie.Need-write-segment-requires Inv-loop μ-loop
-write-segment-requires c κs = (c .before .before .before .before .before .loop .inv .0, (c .before .before .before .before .before .before .before .before .before .before .before .pre .opened .runs, (front-long (8 + 2 * (c .before .before .before .before .before .before .before .wide-size .result) + c .before .before .before .before .before .before .wide-size2 .result) (c .before .before .before .before .before .loop .stretch) (omega (arith, c .before .before .before .before .before .before .before .before .before .before .before .pre .opened .few, c .before .before .before .before .before .before .before .before .before .before .before .pre .most, c .before .before .before .before .before .loop .inv .2, c .before .before .before .before .before .before .before .wide-size .ensures, c .before .before .before .before .before .before .wide-size2 .ensures)) (omega (arith, c .before .before .before .before .before .before .before .wide-size .ensures, c .before .before .before .before .before .before .wide-size2 .ensures)))))
+write-segment-requires c κs =
+    let back = c .before .before .before .before .before in
+    let loop = back .loop in
+    let wide-size2 = back .before .wide-size2 in
+    let wide-size = back .before .before .wide-size in
+    let sounded = back .before .before .before .before .before .before .pre in (
+      loop .inv .0,
+      (
+        sounded .opened .runs,
+        (front-long (8 + 2 * (wide-size .result) + wide-size2 .result) (loop .stretch)
+            (omega (arith, sounded .opened .few, sounded .most, loop .inv .2, wide-size .ensures, wide-size2 .ensures))
+            (omega (arith, wide-size .ensures, wide-size2 .ensures))),
+      ),
+    )
 
 sub-left : tie.Need-sub-left Inv-loop μ-loop
-sub-left c = merging-less (c .before .before .before .before .before .before .before .before .before .before .before .before .before .before .args .t .now) (sounded-ready (c .before .before .before .before .before .before .before .before .before .before .before .before .before .before .pre)) (sounded-fits (c .before .before .before .before .before .before .before .before .before .before .before .before .before .before .pre) (bytes-known (c .before .before .before .before .before .before .before .before .before .before .before .before .before .before .args .t .now) (c .before .before .before .before .before .before .before .before .before .before .before .before .before .shared-slice-known .given))) (c .before .before .before .before .before .before .before .before .before .before .before .before .before .before .pre .opened .runs) (c .before .before .before .before .before .before .before .before .loop .inv .1) (c .before .before .before .before .before .before .before .loop-test .taken) (front-long (8 + 2 * (c .before .before .before .before .before .before .before .before .before .before .wide-size .result) + c .before .before .before .before .before .before .before .before .before .wide-size2 .result) (c .before .before .before .before .before .before .before .before .loop .stretch) (omega (arith, c .before .before .before .before .before .before .before .before .before .before .before .before .before .before .pre .opened .few, c .before .before .before .before .before .before .before .before .before .before .before .before .before .before .pre .most, c .before .before .before .before .before .before .before .before .loop .inv .2, c .before .before .before .before .before .before .before .before .before .before .wide-size .ensures, c .before .before .before .before .before .before .before .before .before .wide-size2 .ensures)) (omega (arith, c .before .before .before .before .before .before .before .before .before .before .wide-size .ensures, c .before .before .before .before .before .before .before .before .before .wide-size2 .ensures))) (c .before .before .write-segment .ensures .0) .1
+sub-left c =
+    let back = c .before .before in
+    let write-segment = back .write-segment in
+    let back = back .before .before .before .before .before in
+    let loop-test = back .loop-test in
+    let loop = back .before .loop in
+    let back = back .before .before in
+    let wide-size2 = back .wide-size2 in
+    let wide-size = back .before .wide-size in
+    let back = back .before .before .before .before in
+    let shared-slice-known = back .shared-slice-known in
+    let args = back .before .args in
+    let sounded = back .before .pre in
+    merging-less
+    (args .t .now)
+    (sounded-ready sounded)
+    (sounded-fits sounded (bytes-known (args .t .now) (shared-slice-known .given)))
+    (sounded .opened .runs)
+    (loop .inv .1)
+    (loop-test .taken)
+    (front-long (8 + 2 * (wide-size .result) + wide-size2 .result) (loop .stretch)
+    (omega (arith, sounded .opened .few, sounded .most, loop .inv .2, wide-size .ensures, wide-size2 .ensures))
+    (omega (arith, wide-size .ensures, wide-size2 .ensures)))
+    (write-segment .ensures .0) .1
 
 add-g : tie.Need-add-g Inv-loop μ-loop
-add-g c = omega (arith, merging-low (c .before .before .before .before .before .before .before .before .before .before .before .before .before .before .args .t .now) (sounded-ready (c .before .before .before .before .before .before .before .before .before .before .before .before .before .before .pre)) (c .before .before .before .before .before .before .before .before .loop .inv .1) (c .before .before .before .before .before .before .before .loop-test .taken), cuts-few (sounded-ready (c .before .before .before .before .before .before .before .before .before .before .before .before .before .before .pre)) (sounded-fits (c .before .before .before .before .before .before .before .before .before .before .before .before .before .before .pre) (bytes-known (c .before .before .before .before .before .before .before .before .before .before .before .before .before .before .args .t .now) (c .before .before .before .before .before .before .before .before .before .before .before .before .before .shared-slice-known .given))))
+add-g c =
+    let back = c .before .before .before .before .before .before .before in
+    let loop-test = back .loop-test in
+    let loop = back .before .loop in
+    let back = back .before .before .before .before .before .before in
+    let shared-slice-known = back .shared-slice-known in
+    let args = back .before .args in
+    let sounded = back .before .pre in
+    omega (
+      arith,
+      merging-low (args .t .now) (sounded-ready sounded) (loop .inv .1) (loop-test .taken),
+      cuts-few (sounded-ready sounded) (sounded-fits sounded (bytes-known (args .t .now) (shared-slice-known .given))),
+    )
 
 loop-less : tie.Need-loop-less Inv-loop μ-loop
-loop-less c = let k = merging-less (c .before .before .before .before .before .before .before .before .before .before .before .before .before .before .args .t .now) (sounded-ready (c .before .before .before .before .before .before .before .before .before .before .before .before .before .before .pre)) (sounded-fits (c .before .before .before .before .before .before .before .before .before .before .before .before .before .before .pre) (bytes-known (c .before .before .before .before .before .before .before .before .before .before .before .before .before .before .args .t .now) (c .before .before .before .before .before .before .before .before .before .before .before .before .before .shared-slice-known .given))) (c .before .before .before .before .before .before .before .before .before .before .before .before .before .before .pre .opened .runs) (c .before .before .before .before .before .before .before .before .loop .inv .1) (c .before .before .before .before .before .before .before .loop-test .taken) (front-long (8 + 2 * (c .before .before .before .before .before .before .before .before .before .before .wide-size .result) + c .before .before .before .before .before .before .before .before .before .wide-size2 .result) (c .before .before .before .before .before .before .before .before .loop .stretch) (omega (arith, c .before .before .before .before .before .before .before .before .before .before .before .before .before .before .pre .opened .few, c .before .before .before .before .before .before .before .before .before .before .before .before .before .before .pre .most, c .before .before .before .before .before .before .before .before .loop .inv .2, c .before .before .before .before .before .before .before .before .before .before .wide-size .ensures, c .before .before .before .before .before .before .before .before .before .wide-size2 .ensures)) (omega (arith, c .before .before .before .before .before .before .before .before .before .before .wide-size .ensures, c .before .before .before .before .before .before .before .before .before .wide-size2 .ensures))) (c .before .before .write-segment .ensures .0) in omega (arith, k .0, k .1)
+loop-less c =
+    let back = c .before .before in
+    let write-segment = back .write-segment in
+    let back = back .before .before .before .before .before in
+    let loop-test = back .loop-test in
+    let loop = back .before .loop in
+    let back = back .before .before in
+    let wide-size2 = back .wide-size2 in
+    let wide-size = back .before .wide-size in
+    let back = back .before .before .before .before in
+    let shared-slice-known = back .shared-slice-known in
+    let args = back .before .args in
+    let sounded = back .before .pre in
+    let k =
+    merging-less
+    (args .t .now)
+    (sounded-ready sounded)
+    (sounded-fits sounded (bytes-known (args .t .now) (shared-slice-known .given)))
+    (sounded .opened .runs)
+    (loop .inv .1)
+    (loop-test .taken)
+    (front-long (8 + 2 * (wide-size .result) + wide-size2 .result) (loop .stretch)
+    (omega (arith, sounded .opened .few, sounded .most, loop .inv .2, wide-size .ensures, wide-size2 .ensures))
+    (omega (arith, wide-size .ensures, wide-size2 .ensures)))
+    (write-segment .ensures .0) in
+    omega (arith, k .0, k .1)
 
 loop-again : tie.Need-loop-again Inv-loop μ-loop
-loop-again c = (c .before .before .write-segment .ensures .1, merging-more (c .before .before .before .before .before .before .before .before .before .before .before .before .before .before .args .t .now) (sounded-ready (c .before .before .before .before .before .before .before .before .before .before .before .before .before .before .pre)) (sounded-fits (c .before .before .before .before .before .before .before .before .before .before .before .before .before .before .pre) (bytes-known (c .before .before .before .before .before .before .before .before .before .before .before .before .before .before .args .t .now) (c .before .before .before .before .before .before .before .before .before .before .before .before .before .shared-slice-known .given))) (c .before .before .before .before .before .before .before .before .before .before .before .before .before .before .pre .opened .runs) (c .before .before .before .before .before .before .before .before .loop .inv .1) (c .before .before .before .before .before .before .before .loop-test .taken) (front-long (8 + 2 * (c .before .before .before .before .before .before .before .before .before .before .wide-size .result) + c .before .before .before .before .before .before .before .before .before .wide-size2 .result) (c .before .before .before .before .before .before .before .before .loop .stretch) (omega (arith, c .before .before .before .before .before .before .before .before .before .before .before .before .before .before .pre .opened .few, c .before .before .before .before .before .before .before .before .before .before .before .before .before .before .pre .most, c .before .before .before .before .before .before .before .before .loop .inv .2, c .before .before .before .before .before .before .before .before .before .before .wide-size .ensures, c .before .before .before .before .before .before .before .before .before .wide-size2 .ensures)) (omega (arith, c .before .before .before .before .before .before .before .before .before .before .wide-size .ensures, c .before .before .before .before .before .before .before .before .before .wide-size2 .ensures))) (c .before .before .write-segment .ensures .0), front-back (8 + 2 * (c .before .before .before .before .before .before .before .before .before .before .wide-size .result) + c .before .before .before .before .before .before .before .before .before .wide-size2 .result) (c .before .before .before .before .before .before .before .before .loop .stretch) (c .before .before .write-segment .last .1 .1 .1 .1 .1 .1 .0) (omega (arith, c .before .before .before .before .before .before .before .before .before .before .before .before .before .before .pre .opened .few, c .before .before .before .before .before .before .before .before .before .before .before .before .before .before .pre .most, c .before .before .before .before .before .before .before .before .loop .inv .2, c .before .before .before .before .before .before .before .before .before .before .wide-size .ensures, c .before .before .before .before .before .before .before .before .before .wide-size2 .ensures)) (c .before .before .write-segment .kept .1 .1 .1 .1 .1 .1 .0) (c .before .before .before .before .before .before .before .before .loop .inv .2))
+loop-again c =
+    let back = c .before .before in
+    let write-segment = back .write-segment in
+    let write-segment-seg-kept = back .write-segment .kept .1 .1 .1 .1 .1 .1 .0 in
+    let write-segment-seg-last = back .write-segment .last .1 .1 .1 .1 .1 .1 .0 in
+    let back = back .before .before .before .before .before in
+    let loop-test = back .loop-test in
+    let loop = back .before .loop in
+    let back = back .before .before in
+    let wide-size2 = back .wide-size2 in
+    let wide-size = back .before .wide-size in
+    let back = back .before .before .before .before in
+    let shared-slice-known = back .shared-slice-known in
+    let args = back .before .args in
+    let sounded = back .before .pre in (
+      write-segment .ensures .1,
+      merging-more
+          (args .t .now)
+          (sounded-ready sounded)
+          (sounded-fits sounded (bytes-known (args .t .now) (shared-slice-known .given)))
+          (sounded .opened .runs)
+          (loop .inv .1)
+          (loop-test .taken)
+          (front-long (8 + 2 * (wide-size .result) + wide-size2 .result) (loop .stretch)
+          (omega (arith, sounded .opened .few, sounded .most, loop .inv .2, wide-size .ensures, wide-size2 .ensures))
+          (omega (arith, wide-size .ensures, wide-size2 .ensures)))
+          (write-segment .ensures .0),
+      front-back
+          (8 + 2 * (wide-size .result) + wide-size2 .result)
+          (loop .stretch)
+          write-segment-seg-last
+          (omega (arith, sounded .opened .few, sounded .most, loop .inv .2, wide-size .ensures, wide-size2 .ensures))
+          write-segment-seg-kept
+          (loop .inv .2),
+    )
 
 returns : tie.Need-returns Inv-loop μ-loop
-returns c = merging-end _ (sounded-ready (c .before .before .before .before .before .before .before .pre)) (c .before .loop .inv .1) (omega arith)
+returns c =
+    let loop = c .before .loop in
+    let sounded = c .before .before .before .before .before .before .before .pre in
+    merging-end _ (sounded-ready sounded) (loop .inv .1) (omega arith)
 
 pub count-segments-spec : {M : Type 1} → statement M
 count-segments-spec =

@@ -21,55 +21,250 @@ abbrev μ-loop : tie.MeasureT-loop
 μ-loop t d n out₀ h counts starts places₀ left₀ g₀ out places left g = left
 
 loop-holds : tie.Need-loop-holds Inv-loop μ-loop
-loop-holds c = (sounded-reading (c .before .before .before .before .pre .0) refl, writing-none (c .before .before .before .before .args .t .now) (sounded-ready (c .before .before .before .before .pre .0)) (c .before .before .before .before .pre .0 .records))
+loop-holds c =
+    let args = c .before .before .before .before .args in
+    let sounded = c .before .before .before .before .pre .0 in
+    (sounded-reading sounded refl, writing-none (args .t .now) (sounded-ready sounded) (sounded .records))
 
 segment-at-requires : tie.Need-segment-at-requires Inv-loop μ-loop
 segment-at-requires c κs = search needs
 
 add-t17 : tie.Need-add-t17 Inv-loop μ-loop
-add-t17 c = omega (arith, merging-low (c .before .before .before .before .before .before .before .args .t .now) (sounded-ready (c .before .before .before .before .before .before .before .pre .0)) (c .before .before .loop .inv .1 .merging) (c .before .loop-test .taken), cuts-few (sounded-ready (c .before .before .before .before .before .before .before .pre .0)) (sounded-fits (c .before .before .before .before .before .before .before .pre .0) (bytes-known (c .before .before .before .before .before .before .before .args .t .now) (c .before .before .before .before .before .before .shared-slice-known .given))))
+add-t17 c =
+    let loop-test = c .before .loop-test in
+    let loop = c .before .before .loop in
+    let back = c .before .before .before .before .before .before in
+    let shared-slice-known = back .shared-slice-known in
+    let args = back .before .args in
+    let sounded = back .before .pre .0 in
+    omega (
+      arith,
+      merging-low (args .t .now) (sounded-ready sounded) (loop .inv .1 .merging) (loop-test .taken),
+      cuts-few (sounded-ready sounded) (sounded-fits sounded (bytes-known (args .t .now) (shared-slice-known .given))),
+    )
 
 segment-at-requires-2 : tie.Need-segment-at-requires-2 Inv-loop μ-loop
 segment-at-requires-2 c κs = search needs
 
 slice-aggregate-write-segment : tie.Need-slice-aggregate-write-segment Inv-loop μ-loop
-slice-aggregate-write-segment c = sym (c .before .before .before .before .before .before .before .before .before .pre .0 .opened .room)
+slice-aggregate-write-segment c =
+    let sounded = c .before .before .before .before .before .before .before .before .before .pre .0 in
+    sym (sounded .opened .room)
 
 slice-aggregate-write-segment-2 : tie.Need-slice-aggregate-write-segment-2 Inv-loop μ-loop
-slice-aggregate-write-segment-2 c = sym (c .before .before .before .before .before .before .before .before .before .before .pre .0 .opened .at .room)
+slice-aggregate-write-segment-2 c =
+    let sounded = c .before .before .before .before .before .before .before .before .before .before .pre .0 in
+    sym (sounded .opened .at .room)
 
 slice-aggregate-write-segment-3 : tie.Need-slice-aggregate-write-segment-3 Inv-loop μ-loop
-slice-aggregate-write-segment-3 c = sym (c .before .before .before .before .before .before .loop .inv .0 .room-places)
+slice-aggregate-write-segment-3 c =
+    let loop = c .before .before .before .before .before .before .loop in
+    sym (loop .inv .0 .room-places)
 
 sub-write-segment : tie.Need-sub-write-segment Inv-loop μ-loop
-sub-write-segment c = (writing-room (c .before .before .before .before .before .before .before .before .before .before .before .args .t .now) (sounded-ready (c .before .before .before .before .before .before .before .before .before .before .before .pre .0)) (c .before .before .before .before .before .before .before .before .before .before .before .pre .0 .opened .runs) (c .before .before .before .before .before .before .before .before .before .before .before .pre .1) (c .before .before .before .before .before .before .loop .inv .1) (c .before .before .before .before .before .loop-test .taken) (c .before .before .before .before .segment-at .ensures) (c .before .before .before .segment-at2 .ensures)) .0
+sub-write-segment c =
+    let back = c .before .before .before in
+    let segment-at2 = back .segment-at2 in
+    let segment-at = back .before .segment-at in
+    let back = back .before .before in
+    let loop-test = back .loop-test in
+    let loop = back .before .loop in
+    let back = back .before .before .before .before .before .before in
+    let args = back .args in
+    let pre = back .pre in
+    let sounded = back .pre .0 in
+    (writing-room (args .t .now) (sounded-ready sounded) (sounded .opened .runs) (pre .1) (loop .inv .1) (loop-test .taken) (segment-at .ensures)
+    (segment-at2 .ensures)) .0
 
 part-write-segment-start : tie.Need-part-write-segment-start Inv-loop μ-loop
-part-write-segment-start c = (writing-room (c .before .before .before .before .before .before .before .before .before .before .before .args .t .now) (sounded-ready (c .before .before .before .before .before .before .before .before .before .before .before .pre .0)) (c .before .before .before .before .before .before .before .before .before .before .before .pre .0 .opened .runs) (c .before .before .before .before .before .before .before .before .before .before .before .pre .1) (c .before .before .before .before .before .before .loop .inv .1) (c .before .before .before .before .before .loop-test .taken) (c .before .before .before .before .segment-at .ensures) (c .before .before .before .segment-at2 .ensures)) .0
+part-write-segment-start c =
+    let back = c .before .before .before in
+    let segment-at2 = back .segment-at2 in
+    let segment-at = back .before .segment-at in
+    let back = back .before .before in
+    let loop-test = back .loop-test in
+    let loop = back .before .loop in
+    let back = back .before .before .before .before .before .before in
+    let args = back .args in
+    let pre = back .pre in
+    let sounded = back .pre .0 in
+    (writing-room (args .t .now) (sounded-ready sounded) (sounded .opened .runs) (pre .1) (loop .inv .1) (loop-test .taken) (segment-at .ensures)
+    (segment-at2 .ensures)) .0
 
 part-write-segment-end : tie.Need-part-write-segment-end Inv-loop μ-loop
-part-write-segment-end c = (writing-room (c .before .before .before .before .before .before .before .before .before .before .before .args .t .now) (sounded-ready (c .before .before .before .before .before .before .before .before .before .before .before .pre .0)) (c .before .before .before .before .before .before .before .before .before .before .before .pre .0 .opened .runs) (c .before .before .before .before .before .before .before .before .before .before .before .pre .1) (c .before .before .before .before .before .before .loop .inv .1) (c .before .before .before .before .before .loop-test .taken) (c .before .before .before .before .segment-at .ensures) (c .before .before .before .segment-at2 .ensures)) .1
+part-write-segment-end c =
+    let back = c .before .before .before in
+    let segment-at2 = back .segment-at2 in
+    let segment-at = back .before .segment-at in
+    let back = back .before .before in
+    let loop-test = back .loop-test in
+    let loop = back .before .loop in
+    let back = back .before .before .before .before .before .before in
+    let args = back .args in
+    let pre = back .pre in
+    let sounded = back .pre .0 in
+    (writing-room (args .t .now) (sounded-ready sounded) (sounded .opened .runs) (pre .1) (loop .inv .1) (loop-test .taken) (segment-at .ensures)
+    (segment-at2 .ensures)) .1
 
 write-segment-requires : tie.Need-write-segment-requires Inv-loop μ-loop
-write-segment-requires c κs = (c .before .before .before .before .before .before .before .loop .inv .0, (c .before .before .before .before .before .before .before .before .before .before .before .before .pre .0 .opened .runs, (lent-long (c .before .before .before .before .before .before .before .loop .out) (c .before .before .before .before .before .segment-at .result) (c .before .before .before .before .segment-at2 .result) ((writing-room (c .before .before .before .before .before .before .before .before .before .before .before .before .args .t .now) (sounded-ready (c .before .before .before .before .before .before .before .before .before .before .before .before .pre .0)) (c .before .before .before .before .before .before .before .before .before .before .before .before .pre .0 .opened .runs) (c .before .before .before .before .before .before .before .before .before .before .before .before .pre .1) (c .before .before .before .before .before .before .before .loop .inv .1) (c .before .before .before .before .before .before .loop-test .taken) (c .before .before .before .before .before .segment-at .ensures) (c .before .before .before .before .segment-at2 .ensures)) .0) ((writing-room (c .before .before .before .before .before .before .before .before .before .before .before .before .args .t .now) (sounded-ready (c .before .before .before .before .before .before .before .before .before .before .before .before .pre .0)) (c .before .before .before .before .before .before .before .before .before .before .before .before .pre .0 .opened .runs) (c .before .before .before .before .before .before .before .before .before .before .before .before .pre .1) (c .before .before .before .before .before .before .before .loop .inv .1) (c .before .before .before .before .before .before .loop-test .taken) (c .before .before .before .before .before .segment-at .ensures) (c .before .before .before .before .segment-at2 .ensures)) .1) ((writing-room (c .before .before .before .before .before .before .before .before .before .before .before .before .args .t .now) (sounded-ready (c .before .before .before .before .before .before .before .before .before .before .before .before .pre .0)) (c .before .before .before .before .before .before .before .before .before .before .before .before .pre .0 .opened .runs) (c .before .before .before .before .before .before .before .before .before .before .before .before .pre .1) (c .before .before .before .before .before .before .before .loop .inv .1) (c .before .before .before .before .before .before .loop-test .taken) (c .before .before .before .before .before .segment-at .ensures) (c .before .before .before .before .segment-at2 .ensures)) .2))))
+write-segment-requires c κs =
+    let back = c .before .before .before .before in
+    let segment-at2 = back .segment-at2 in
+    let segment-at = back .before .segment-at in
+    let back = back .before .before in
+    let loop-test = back .loop-test in
+    let loop = back .before .loop in
+    let back = back .before .before .before .before .before .before in
+    let args = back .args in
+    let pre = back .pre in
+    let sounded = back .pre .0 in (
+      loop .inv .0,
+      (
+        sounded .opened .runs,
+        (lent-long (loop .out) (segment-at .result) (segment-at2 .result)
+            ((writing-room (args .t .now) (sounded-ready sounded) (sounded .opened .runs) (pre .1) (loop .inv .1) (loop-test .taken)
+            (segment-at .ensures) (segment-at2 .ensures)) .0)
+            ((writing-room (args .t .now) (sounded-ready sounded) (sounded .opened .runs) (pre .1) (loop .inv .1) (loop-test .taken)
+            (segment-at .ensures) (segment-at2 .ensures)) .1)
+            ((writing-room (args .t .now) (sounded-ready sounded) (sounded .opened .runs) (pre .1) (loop .inv .1) (loop-test .taken)
+            (segment-at .ensures) (segment-at2 .ensures)) .2)),
+      ),
+    )
 
 sub-left : tie.Need-sub-left Inv-loop μ-loop
-sub-left c = merging-less (c .before .before .before .before .before .before .before .before .before .before .before .before .before .before .before .before .args .t .now) (sounded-ready (c .before .before .before .before .before .before .before .before .before .before .before .before .before .before .before .before .pre .0)) (sounded-fits (c .before .before .before .before .before .before .before .before .before .before .before .before .before .before .before .before .pre .0) (bytes-known (c .before .before .before .before .before .before .before .before .before .before .before .before .before .before .before .before .args .t .now) (c .before .before .before .before .before .before .before .before .before .before .before .before .before .before .before .shared-slice-known .given))) (c .before .before .before .before .before .before .before .before .before .before .before .before .before .before .before .before .pre .0 .opened .runs) (c .before .before .before .before .before .before .before .before .before .before .before .loop .inv .1 .merging) (c .before .before .before .before .before .before .before .before .before .before .loop-test .taken) (lent-long (c .before .before .before .before .before .before .before .before .before .before .before .loop .out) (c .before .before .before .before .before .before .before .before .before .segment-at .result) (c .before .before .before .before .before .before .before .before .segment-at2 .result) ((writing-room (c .before .before .before .before .before .before .before .before .before .before .before .before .before .before .before .before .args .t .now) (sounded-ready (c .before .before .before .before .before .before .before .before .before .before .before .before .before .before .before .before .pre .0)) (c .before .before .before .before .before .before .before .before .before .before .before .before .before .before .before .before .pre .0 .opened .runs) (c .before .before .before .before .before .before .before .before .before .before .before .before .before .before .before .before .pre .1) (c .before .before .before .before .before .before .before .before .before .before .before .loop .inv .1) (c .before .before .before .before .before .before .before .before .before .before .loop-test .taken) (c .before .before .before .before .before .before .before .before .before .segment-at .ensures) (c .before .before .before .before .before .before .before .before .segment-at2 .ensures)) .0) ((writing-room (c .before .before .before .before .before .before .before .before .before .before .before .before .before .before .before .before .args .t .now) (sounded-ready (c .before .before .before .before .before .before .before .before .before .before .before .before .before .before .before .before .pre .0)) (c .before .before .before .before .before .before .before .before .before .before .before .before .before .before .before .before .pre .0 .opened .runs) (c .before .before .before .before .before .before .before .before .before .before .before .before .before .before .before .before .pre .1) (c .before .before .before .before .before .before .before .before .before .before .before .loop .inv .1) (c .before .before .before .before .before .before .before .before .before .before .loop-test .taken) (c .before .before .before .before .before .before .before .before .before .segment-at .ensures) (c .before .before .before .before .before .before .before .before .segment-at2 .ensures)) .1) ((writing-room (c .before .before .before .before .before .before .before .before .before .before .before .before .before .before .before .before .args .t .now) (sounded-ready (c .before .before .before .before .before .before .before .before .before .before .before .before .before .before .before .before .pre .0)) (c .before .before .before .before .before .before .before .before .before .before .before .before .before .before .before .before .pre .0 .opened .runs) (c .before .before .before .before .before .before .before .before .before .before .before .before .before .before .before .before .pre .1) (c .before .before .before .before .before .before .before .before .before .before .before .loop .inv .1) (c .before .before .before .before .before .before .before .before .before .before .loop-test .taken) (c .before .before .before .before .before .before .before .before .before .segment-at .ensures) (c .before .before .before .before .before .before .before .before .segment-at2 .ensures)) .2)) (c .before .before .before .write-segment .ensures .0) .1
+sub-left c =
+    let back = c .before .before .before in
+    let write-segment = back .write-segment in
+    let back = back .before .before .before .before .before in
+    let segment-at2 = back .segment-at2 in
+    let segment-at = back .before .segment-at in
+    let back = back .before .before in
+    let loop-test = back .loop-test in
+    let loop = back .before .loop in
+    let back = back .before .before .before .before .before in
+    let shared-slice-known = back .shared-slice-known in
+    let args = back .before .args in
+    let pre = back .before .pre in
+    let sounded = back .before .pre .0 in
+    merging-less
+    (args .t .now)
+    (sounded-ready sounded)
+    (sounded-fits sounded (bytes-known (args .t .now) (shared-slice-known .given)))
+    (sounded .opened .runs)
+    (loop .inv .1 .merging)
+    (loop-test .taken)
+    (lent-long (loop .out) (segment-at .result) (segment-at2 .result)
+    ((writing-room (args .t .now) (sounded-ready sounded) (sounded .opened .runs) (pre .1) (loop .inv .1) (loop-test .taken) (segment-at .ensures)
+    (segment-at2 .ensures)) .0)
+    ((writing-room (args .t .now) (sounded-ready sounded) (sounded .opened .runs) (pre .1) (loop .inv .1) (loop-test .taken) (segment-at .ensures)
+    (segment-at2 .ensures)) .1)
+    ((writing-room (args .t .now) (sounded-ready sounded) (sounded .opened .runs) (pre .1) (loop .inv .1) (loop-test .taken) (segment-at .ensures)
+    (segment-at2 .ensures)) .2))
+    (write-segment .ensures .0) .1
 
 add-g : tie.Need-add-g Inv-loop μ-loop
-add-g c = omega (arith, merging-low (c .before .before .before .before .before .before .before .before .before .before .before .before .before .before .before .before .args .t .now) (sounded-ready (c .before .before .before .before .before .before .before .before .before .before .before .before .before .before .before .before .pre .0)) (c .before .before .before .before .before .before .before .before .before .before .before .loop .inv .1 .merging) (c .before .before .before .before .before .before .before .before .before .before .loop-test .taken), cuts-few (sounded-ready (c .before .before .before .before .before .before .before .before .before .before .before .before .before .before .before .before .pre .0)) (sounded-fits (c .before .before .before .before .before .before .before .before .before .before .before .before .before .before .before .before .pre .0) (bytes-known (c .before .before .before .before .before .before .before .before .before .before .before .before .before .before .before .before .args .t .now) (c .before .before .before .before .before .before .before .before .before .before .before .before .before .before .before .shared-slice-known .given))))
+add-g c =
+    let back = c .before .before .before .before .before .before .before .before .before .before in
+    let loop-test = back .loop-test in
+    let loop = back .before .loop in
+    let back = back .before .before .before .before .before in
+    let shared-slice-known = back .shared-slice-known in
+    let args = back .before .args in
+    let sounded = back .before .pre .0 in
+    omega (
+      arith,
+      merging-low (args .t .now) (sounded-ready sounded) (loop .inv .1 .merging) (loop-test .taken),
+      cuts-few (sounded-ready sounded) (sounded-fits sounded (bytes-known (args .t .now) (shared-slice-known .given))),
+    )
 
 loop-less : tie.Need-loop-less Inv-loop μ-loop
-loop-less c = let k = merging-less (c .before .before .before .before .before .before .before .before .before .before .before .before .before .before .before .before .args .t .now) (sounded-ready (c .before .before .before .before .before .before .before .before .before .before .before .before .before .before .before .before .pre .0)) (sounded-fits (c .before .before .before .before .before .before .before .before .before .before .before .before .before .before .before .before .pre .0) (bytes-known (c .before .before .before .before .before .before .before .before .before .before .before .before .before .before .before .before .args .t .now) (c .before .before .before .before .before .before .before .before .before .before .before .before .before .before .before .shared-slice-known .given))) (c .before .before .before .before .before .before .before .before .before .before .before .before .before .before .before .before .pre .0 .opened .runs) (c .before .before .before .before .before .before .before .before .before .before .before .loop .inv .1 .merging) (c .before .before .before .before .before .before .before .before .before .before .loop-test .taken) (lent-long (c .before .before .before .before .before .before .before .before .before .before .before .loop .out) (c .before .before .before .before .before .before .before .before .before .segment-at .result) (c .before .before .before .before .before .before .before .before .segment-at2 .result) ((writing-room (c .before .before .before .before .before .before .before .before .before .before .before .before .before .before .before .before .args .t .now) (sounded-ready (c .before .before .before .before .before .before .before .before .before .before .before .before .before .before .before .before .pre .0)) (c .before .before .before .before .before .before .before .before .before .before .before .before .before .before .before .before .pre .0 .opened .runs) (c .before .before .before .before .before .before .before .before .before .before .before .before .before .before .before .before .pre .1) (c .before .before .before .before .before .before .before .before .before .before .before .loop .inv .1) (c .before .before .before .before .before .before .before .before .before .before .loop-test .taken) (c .before .before .before .before .before .before .before .before .before .segment-at .ensures) (c .before .before .before .before .before .before .before .before .segment-at2 .ensures)) .0) ((writing-room (c .before .before .before .before .before .before .before .before .before .before .before .before .before .before .before .before .args .t .now) (sounded-ready (c .before .before .before .before .before .before .before .before .before .before .before .before .before .before .before .before .pre .0)) (c .before .before .before .before .before .before .before .before .before .before .before .before .before .before .before .before .pre .0 .opened .runs) (c .before .before .before .before .before .before .before .before .before .before .before .before .before .before .before .before .pre .1) (c .before .before .before .before .before .before .before .before .before .before .before .loop .inv .1) (c .before .before .before .before .before .before .before .before .before .before .loop-test .taken) (c .before .before .before .before .before .before .before .before .before .segment-at .ensures) (c .before .before .before .before .before .before .before .before .segment-at2 .ensures)) .1) ((writing-room (c .before .before .before .before .before .before .before .before .before .before .before .before .before .before .before .before .args .t .now) (sounded-ready (c .before .before .before .before .before .before .before .before .before .before .before .before .before .before .before .before .pre .0)) (c .before .before .before .before .before .before .before .before .before .before .before .before .before .before .before .before .pre .0 .opened .runs) (c .before .before .before .before .before .before .before .before .before .before .before .before .before .before .before .before .pre .1) (c .before .before .before .before .before .before .before .before .before .before .before .loop .inv .1) (c .before .before .before .before .before .before .before .before .before .before .loop-test .taken) (c .before .before .before .before .before .before .before .before .before .segment-at .ensures) (c .before .before .before .before .before .before .before .before .segment-at2 .ensures)) .2)) (c .before .before .before .write-segment .ensures .0) in omega (arith, k .0, k .1)
+loop-less c =
+    let back = c .before .before .before in
+    let write-segment = back .write-segment in
+    let back = back .before .before .before .before .before in
+    let segment-at2 = back .segment-at2 in
+    let segment-at = back .before .segment-at in
+    let back = back .before .before in
+    let loop-test = back .loop-test in
+    let loop = back .before .loop in
+    let back = back .before .before .before .before .before in
+    let shared-slice-known = back .shared-slice-known in
+    let args = back .before .args in
+    let pre = back .before .pre in
+    let sounded = back .before .pre .0 in
+    let k =
+    merging-less
+    (args .t .now)
+    (sounded-ready sounded)
+    (sounded-fits sounded (bytes-known (args .t .now) (shared-slice-known .given)))
+    (sounded .opened .runs)
+    (loop .inv .1 .merging)
+    (loop-test .taken)
+    (lent-long (loop .out) (segment-at .result) (segment-at2 .result)
+    ((writing-room (args .t .now) (sounded-ready sounded) (sounded .opened .runs) (pre .1) (loop .inv .1) (loop-test .taken) (segment-at .ensures)
+    (segment-at2 .ensures)) .0)
+    ((writing-room (args .t .now) (sounded-ready sounded) (sounded .opened .runs) (pre .1) (loop .inv .1) (loop-test .taken) (segment-at .ensures)
+    (segment-at2 .ensures)) .1)
+    ((writing-room (args .t .now) (sounded-ready sounded) (sounded .opened .runs) (pre .1) (loop .inv .1) (loop-test .taken) (segment-at .ensures)
+    (segment-at2 .ensures)) .2))
+    (write-segment .ensures .0) in
+    omega (arith, k .0, k .1)
 
 loop-again : tie.Need-loop-again Inv-loop μ-loop
-loop-again c = (c .before .before .before .write-segment .ensures .1, writing-more (c .before .before .before .before .before .before .before .before .before .before .before .before .before .before .before .before .args .t .now) (sounded-ready (c .before .before .before .before .before .before .before .before .before .before .before .before .before .before .before .before .pre .0)) (sounded-fits (c .before .before .before .before .before .before .before .before .before .before .before .before .before .before .before .before .pre .0) (bytes-known (c .before .before .before .before .before .before .before .before .before .before .before .before .before .before .before .before .args .t .now) (c .before .before .before .before .before .before .before .before .before .before .before .before .before .before .before .shared-slice-known .given))) (c .before .before .before .before .before .before .before .before .before .before .before .before .before .before .before .before .pre .0 .opened .runs) (c .before .before .before .before .before .before .before .before .before .before .before .loop .inv .1) (c .before .before .before .before .before .before .before .before .before .before .loop-test .taken) (c .before .before .before .before .before .before .before .before .before .before .before .before .before .before .before .before .pre .1) (lent-long (c .before .before .before .before .before .before .before .before .before .before .before .loop .out) (c .before .before .before .before .before .before .before .before .before .segment-at .result) (c .before .before .before .before .before .before .before .before .segment-at2 .result) ((writing-room (c .before .before .before .before .before .before .before .before .before .before .before .before .before .before .before .before .args .t .now) (sounded-ready (c .before .before .before .before .before .before .before .before .before .before .before .before .before .before .before .before .pre .0)) (c .before .before .before .before .before .before .before .before .before .before .before .before .before .before .before .before .pre .0 .opened .runs) (c .before .before .before .before .before .before .before .before .before .before .before .before .before .before .before .before .pre .1) (c .before .before .before .before .before .before .before .before .before .before .before .loop .inv .1) (c .before .before .before .before .before .before .before .before .before .before .loop-test .taken) (c .before .before .before .before .before .before .before .before .before .segment-at .ensures) (c .before .before .before .before .before .before .before .before .segment-at2 .ensures)) .0) ((writing-room (c .before .before .before .before .before .before .before .before .before .before .before .before .before .before .before .before .args .t .now) (sounded-ready (c .before .before .before .before .before .before .before .before .before .before .before .before .before .before .before .before .pre .0)) (c .before .before .before .before .before .before .before .before .before .before .before .before .before .before .before .before .pre .0 .opened .runs) (c .before .before .before .before .before .before .before .before .before .before .before .before .before .before .before .before .pre .1) (c .before .before .before .before .before .before .before .before .before .before .before .loop .inv .1) (c .before .before .before .before .before .before .before .before .before .before .loop-test .taken) (c .before .before .before .before .before .before .before .before .before .segment-at .ensures) (c .before .before .before .before .before .before .before .before .segment-at2 .ensures)) .1) ((writing-room (c .before .before .before .before .before .before .before .before .before .before .before .before .before .before .before .before .args .t .now) (sounded-ready (c .before .before .before .before .before .before .before .before .before .before .before .before .before .before .before .before .pre .0)) (c .before .before .before .before .before .before .before .before .before .before .before .before .before .before .before .before .pre .0 .opened .runs) (c .before .before .before .before .before .before .before .before .before .before .before .before .before .before .before .before .pre .1) (c .before .before .before .before .before .before .before .before .before .before .before .loop .inv .1) (c .before .before .before .before .before .before .before .before .before .before .loop-test .taken) (c .before .before .before .before .before .before .before .before .before .segment-at .ensures) (c .before .before .before .before .before .before .before .before .segment-at2 .ensures)) .2)) (c .before .before .before .write-segment .ensures .0) (c .before .before .before .before .before .before .before .before .before .segment-at .ensures) (lent-back (c .before .before .before .before .before .before .before .before .before .before .before .loop .out) (c .before .before .before .write-segment .last .1 .1 .1 .1 .1 .1 .0) (c .before .before .before .before .before .before .before .before .before .segment-at .result) (c .before .before .before .before .before .before .before .before .segment-at2 .result) ((writing-room (c .before .before .before .before .before .before .before .before .before .before .before .before .before .before .before .before .args .t .now) (sounded-ready (c .before .before .before .before .before .before .before .before .before .before .before .before .before .before .before .before .pre .0)) (c .before .before .before .before .before .before .before .before .before .before .before .before .before .before .before .before .pre .0 .opened .runs) (c .before .before .before .before .before .before .before .before .before .before .before .before .before .before .before .before .pre .1) (c .before .before .before .before .before .before .before .before .before .before .before .loop .inv .1) (c .before .before .before .before .before .before .before .before .before .before .loop-test .taken) (c .before .before .before .before .before .before .before .before .before .segment-at .ensures) (c .before .before .before .before .before .before .before .before .segment-at2 .ensures)) .0) ((writing-room (c .before .before .before .before .before .before .before .before .before .before .before .before .before .before .before .before .args .t .now) (sounded-ready (c .before .before .before .before .before .before .before .before .before .before .before .before .before .before .before .before .pre .0)) (c .before .before .before .before .before .before .before .before .before .before .before .before .before .before .before .before .pre .0 .opened .runs) (c .before .before .before .before .before .before .before .before .before .before .before .before .before .before .before .before .pre .1) (c .before .before .before .before .before .before .before .before .before .before .before .loop .inv .1) (c .before .before .before .before .before .before .before .before .before .before .loop-test .taken) (c .before .before .before .before .before .before .before .before .before .segment-at .ensures) (c .before .before .before .before .before .before .before .before .segment-at2 .ensures)) .1) (c .before .before .before .write-segment .kept .1 .1 .1 .1 .1 .1 .0)))
+loop-again c =
+    let back = c .before .before .before in
+    let write-segment = back .write-segment in
+    let write-segment-seg-kept = back .write-segment .kept .1 .1 .1 .1 .1 .1 .0 in
+    let write-segment-seg-last = back .write-segment .last .1 .1 .1 .1 .1 .1 .0 in
+    let back = back .before .before .before .before .before in
+    let segment-at2 = back .segment-at2 in
+    let segment-at = back .before .segment-at in
+    let back = back .before .before in
+    let loop-test = back .loop-test in
+    let loop = back .before .loop in
+    let back = back .before .before .before .before .before in
+    let shared-slice-known = back .shared-slice-known in
+    let args = back .before .args in
+    let pre = back .before .pre in
+    let sounded = back .before .pre .0 in (
+      write-segment .ensures .1,
+      writing-more
+          (args .t .now)
+          (sounded-ready sounded)
+          (sounded-fits sounded (bytes-known (args .t .now) (shared-slice-known .given)))
+          (sounded .opened .runs)
+          (loop .inv .1)
+          (loop-test .taken)
+          (pre .1)
+          (lent-long (loop .out) (segment-at .result) (segment-at2 .result)
+          ((writing-room (args .t .now) (sounded-ready sounded) (sounded .opened .runs) (pre .1) (loop .inv .1) (loop-test .taken)
+          (segment-at .ensures) (segment-at2 .ensures)) .0)
+          ((writing-room (args .t .now) (sounded-ready sounded) (sounded .opened .runs) (pre .1) (loop .inv .1) (loop-test .taken)
+          (segment-at .ensures) (segment-at2 .ensures)) .1)
+          ((writing-room (args .t .now) (sounded-ready sounded) (sounded .opened .runs) (pre .1) (loop .inv .1) (loop-test .taken)
+          (segment-at .ensures) (segment-at2 .ensures)) .2))
+          (write-segment .ensures .0)
+          (segment-at .ensures)
+          (lent-back (loop .out) write-segment-seg-last (segment-at .result) (segment-at2 .result)
+          ((writing-room (args .t .now) (sounded-ready sounded) (sounded .opened .runs) (pre .1) (loop .inv .1) (loop-test .taken)
+          (segment-at .ensures) (segment-at2 .ensures)) .0)
+          ((writing-room (args .t .now) (sounded-ready sounded) (sounded .opened .runs) (pre .1) (loop .inv .1) (loop-test .taken)
+          (segment-at .ensures) (segment-at2 .ensures)) .1) write-segment-seg-kept),
+    )
 
 same-length : tie.Need-same-length Inv-loop μ-loop
-same-length c = c .before .loop .inv .1 .room
+same-length c =
+    let loop = c .before .loop in
+    loop .inv .1 .room
 
 returns : tie.Need-returns Inv-loop μ-loop
-returns c = (merging-end (c .before .before .before .before .before .before .args .t .now) (sounded-ready (c .before .before .before .before .before .before .pre .0)) (c .before .loop .inv .1 .merging) (omega arith), writing-end (c .before .before .before .before .before .before .args .t .now) (sounded-ready (c .before .before .before .before .before .before .pre .0)) (c .before .loop .inv .1) (omega arith))
+returns c =
+    let loop = c .before .loop in
+    let args = c .before .before .before .before .before .before .args in
+    let sounded = c .before .before .before .before .before .before .pre .0 in (
+      merging-end (args .t .now) (sounded-ready sounded) (loop .inv .1 .merging) (omega arith),
+      writing-end (args .t .now) (sounded-ready sounded) (loop .inv .1) (omega arith),
+    )
 
 pub write-segments-spec : {M : Type 1} → statement M
 write-segments-spec =

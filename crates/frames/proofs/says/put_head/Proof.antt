@@ -32,7 +32,10 @@ same-length : tie.Need-same-length
 same-length c = search needs
 
 returns : tie.Need-returns
-returns c = c .before .before .encode .ensures ∙ ap (λ bytes. put (c .before .before .before .before .before .before .args .out .now) 0 (hexOf bytes)) (head-is (c .before .before .before .before .before .before .args .code) (c .before .before .before .before .before .before .args .number) (c .before .before .before .before .before .before .args .figure) refl)
+returns c =
+    let encode = c .before .before .encode in
+    let args = c .before .before .before .before .before .before .args in
+    encode .ensures ∙ ap (λ bytes. put (args .out .now) 0 (hexOf bytes)) (head-is (args .code) (args .number) (args .figure) refl)
 
 pub put-head-spec : {M : Type 1} → statement M
 put-head-spec =

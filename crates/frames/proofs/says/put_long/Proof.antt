@@ -25,10 +25,19 @@ add-result : tie.Need-add-result
 add-result c = search needs
 
 same-length : tie.Need-same-length
-same-length c = simp length-set (omega (arith, c .before .before .encode .kept, c .before .before .before .before .before .before .put-head .kept))
+same-length c =
+    let encode = c .before .before .encode in
+    let put-head = c .before .before .before .before .before .before .put-head in
+    simp length-set (omega (arith, encode .kept, put-head .kept))
 
 returns : tie.Need-returns
-returns c = line-long (c .before .before .before .before .before .before .before .before .before .before .args .code) (c .before .before .before .before .before .before .before .before .before .before .args .figure) (c .before .before .before .before .before .before .before .before .before .before .args .more .now) (c .before .before .before .before .before .before .before .before .before .before .args .out .now) (c .before .before .before .before .before .before .before .before .before .before .pre .0) (c .before .before .before .before .before .before .before .before .before .before .pre .1) (c .before .before .before .before .before .before .put-head .ensures) (c .before .before .encode .ensures)
+returns c =
+    let encode = c .before .before .encode in
+    let back = c .before .before .before .before .before .before in
+    let put-head = back .put-head in
+    let args = back .before .before .before .before .args in
+    let pre = back .before .before .before .before .pre in
+    line-long (args .code) (args .figure) (args .more .now) (args .out .now) (pre .0) (pre .1) (put-head .ensures) (encode .ensures)
 
 pub put-long-spec : {M : Type 1} → statement M
 put-long-spec =

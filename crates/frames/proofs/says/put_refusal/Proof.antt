@@ -14,7 +14,11 @@ same-length : tie.Need-same-length
 same-length c = search needs
 
 returns : tie.Need-returns
-returns c = line-refusal (c .before .before .before .before .before .before .args .code) (c .before .before .before .before .before .before .args .r) (c .before .before .before .before .verdict-of .ensures) (c .before .before .put-short .ensures)
+returns c =
+    let put-short = c .before .before .put-short in
+    let verdict-of = c .before .before .before .before .verdict-of in
+    let args = c .before .before .before .before .before .before .args in
+    line-refusal (args .code) (args .r) (verdict-of .ensures) (put-short .ensures)
 
 pub put-refusal-spec : {M : Type 1} → statement M
 put-refusal-spec = tie.close (tie.spec verdict-of-requires put-short-requires same-length returns)

@@ -14,7 +14,11 @@ same-length : tie.Need-same-length
 same-length c = search needs
 
 returns : tie.Need-returns
-returns c = line-short (c .before .before .before .before .before .args .code) (c .before .before .before .before .before .args .number) (c .before .before .before .before .before .args .figure) (c .before .before .before .before .before .args .out .now) (c .before .before .before .before .before .pre) (c .before .before .put-head .ensures)
+returns c =
+    let put-head = c .before .before .put-head in
+    let args = c .before .before .before .before .before .args in
+    let pre = c .before .before .before .before .before .pre in
+    line-short (args .code) (args .number) (args .figure) (args .out .now) pre (put-head .ensures)
 
 pub put-short-spec : {M : Type 1} → statement M
 put-short-spec = tie.close (tie.spec put-head-requires slice-write-out same-length returns)

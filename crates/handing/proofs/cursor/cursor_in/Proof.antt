@@ -32,7 +32,13 @@ selector-in-requires : tie.Need-selector-in-requires
 selector-in-requires c κs = search needs
 
 returns : tie.Need-returns
-returns c = cursor-in (c .before .before .before .before .before .before .before .before .pre) (c .before .before .before .before .half .ensures .0) (c .before .before .half2 .ensures .0) (c .selector-in .ensures) (c .before .before .before .before .before .before .places-in .ensures)
+returns c =
+    let half2 = c .before .before .half2 in
+    let back = c .before .before .before .before in
+    let half = back .half in
+    let places-in = back .before .before .places-in in
+    let pre = back .before .before .before .before .pre in
+    cursor-in pre (half .ensures .0) (half2 .ensures .0) (c .selector-in .ensures) (places-in .ensures)
 
 pub cursor-in-spec : {M : Type 1} → statement M
 cursor-in-spec =

@@ -28,7 +28,9 @@ mul-places : tie.Need-mul-places Inv-loop μ-loop
 mul-places c = search needs
 
 array-set-from-places : tie.Need-array-set-from-places Inv-loop μ-loop
-array-set-from-places c = omega (arith, c .before .loop-test .taken)
+array-set-from-places c =
+    let loop-test = c .before .loop-test in
+    omega (arith, loop-test .taken)
 
 add-i : tie.Need-add-i Inv-loop μ-loop
 add-i c = search needs
@@ -37,10 +39,15 @@ loop-less : tie.Need-loop-less Inv-loop μ-loop
 loop-less c = search needs
 
 loop-again : tie.Need-loop-again Inv-loop μ-loop
-loop-again c = in-more (c .before .before .loop .inv) (c .before .loop-test .taken)
+loop-again c =
+    let loop-test = c .before .loop-test in
+    let loop = c .before .before .loop in
+    in-more (loop .inv) (loop-test .taken)
 
 returns : tie.Need-returns Inv-loop μ-loop
-returns c = in-all (c .before .loop .inv) (c .loop-test .left)
+returns c =
+    let loop = c .before .loop in
+    in-all (loop .inv) (c .loop-test .left)
 
 pub places-in-spec : {M : Type 1} → statement M
 places-in-spec =

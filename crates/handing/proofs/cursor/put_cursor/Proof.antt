@@ -26,13 +26,26 @@ selector-out-requires : tie.Need-selector-out-requires
 selector-out-requires c κs = search needs
 
 slice-write-numbers-3 : tie.Need-slice-write-numbers-3
-slice-write-numbers-3 c = simp length-set (omega (arith, c .before .before .before .put-places .ensures .long))
+slice-write-numbers-3 c =
+    let put-places = c .before .before .before .put-places in
+    simp length-set (omega (arith, put-places .ensures .long))
 
 same-length : tie.Need-same-length
 same-length c = search needs
 
 returns : tie.Need-returns
-returns c = put-all (c .before .before .before .before .before .before .before .args .from) (c .before .before .before .put-places .last .1 .0) (sym (length-map (c .before .before .before .before .before .before .before .args .from .places) _) ∙ c .before .before .before .before .before .before .before .good .0 .1 .1 .1 .1 .0 .1 .0 .1) (c .before .before .before .put-places .ensures) (c .selector-out .ensures)
+returns c =
+    let back = c .before .before .before in
+    let put-places = back .put-places in
+    let put-places-numbers-last = back .put-places .last .1 .0 in
+    let args = back .before .before .before .before .args in
+    let from-good = back .before .before .before .before .good .0 in
+    put-all
+    (args .from)
+    put-places-numbers-last
+    (sym (length-map (args .from .places) _) ∙ from-good .1 .1 .1 .1 .0 .1 .0 .1)
+    (put-places .ensures)
+    (c .selector-out .ensures)
 
 pub put-cursor-spec : {M : Type 1} → statement M
 put-cursor-spec =

@@ -38,13 +38,18 @@ loop-less : tie.Need-loop-less Inv-loop μ-loop
 loop-less c = search needs
 
 loop-again : tie.Need-loop-again Inv-loop μ-loop
-loop-again c = out-more (c .before .before .loop .inv) (c .before .loop-test .taken) refl
+loop-again c =
+    let loop-test = c .before .loop-test in
+    let loop = c .before .before .loop in
+    out-more (loop .inv) (loop-test .taken) refl
 
 same-length : tie.Need-same-length Inv-loop μ-loop
 same-length c = search needs
 
 returns : tie.Need-returns Inv-loop μ-loop
-returns c = out-all (c .before .loop .inv) (c .loop-test .left)
+returns c =
+    let loop = c .before .loop in
+    out-all (loop .inv) (c .loop-test .left)
 
 pub put-places-spec : {M : Type 1} → statement M
 put-places-spec =

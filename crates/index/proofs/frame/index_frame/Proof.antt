@@ -12,28 +12,49 @@ shared-slice-read-if2 : tie.Need-shared-slice-read-if2
 shared-slice-read-if2 c = omega arith
 
 returns-2 : tie.Need-returns-2
-returns-2 c = frame-runs _ _ (c .before .before .if1 .left) (c .if2 .taken)
+returns-2 c =
+    let if1 = c .before .before .if1 in
+    frame-runs _ _ (if1 .left) (c .if2 .taken)
 
 shared-slice-read-d : tie.Need-shared-slice-read-d
 shared-slice-read-d c = omega arith
 
 returns-3 : tie.Need-returns-3
-returns-3 c = frame-low _ _ (c .before .before .before .before .if1 .left) (c .before .before .if2 .left) (c .if3 .taken)
+returns-3 c =
+    let if2 = c .before .before .if2 in
+    let if1 = c .before .before .before .before .if1 in
+    frame-low _ _ (if1 .left) (if2 .left) (c .if3 .taken)
 
 returns-4 : tie.Need-returns-4
-returns-4 c = frame-high _ _ (c .before .before .before .before .before .if1 .left) (c .before .before .before .if2 .left) (c .before .if3 .left) (c .if4 .taken)
+returns-4 c =
+    let if3 = c .before .if3 in
+    let if2 = c .before .before .before .if2 in
+    let if1 = c .before .before .before .before .before .if1 in
+    frame-high _ _ (if1 .left) (if2 .left) (if3 .left) (c .if4 .taken)
 
 shared-slice-read-if5 : tie.Need-shared-slice-read-if5
 shared-slice-read-if5 c = omega arith
 
 returns-5 : tie.Need-returns-5
-returns-5 c = frame-2 _ _ (c .before .before .before .before .before .before .before .if1 .left) (c .before .before .before .before .before .if2 .left) (c .before .before .before .if3 .left) (c .before .before .if4 .left) (c .if5 .taken)
+returns-5 c =
+    let if4 = c .before .before .if4 in
+    let if3 = c .before .before .before .if3 in
+    let if2 = c .before .before .before .before .before .if2 in
+    let if1 = c .before .before .before .before .before .before .before .if1 in
+    frame-2 _ _ (if1 .left) (if2 .left) (if3 .left) (if4 .left) (c .if5 .taken)
 
 shared-slice-read-if6 : tie.Need-shared-slice-read-if6
 shared-slice-read-if6 c = omega arith
 
 returns-6 : tie.Need-returns-6
-returns-6 c = frame-3 _ _ (c .before .before .before .before .before .before .before .before .before .if1 .left) (c .before .before .before .before .before .before .before .if2 .left) (c .before .before .before .before .before .if3 .left) (c .before .before .before .before .if4 .left) (c .before .before .if5 .left) (c .if6 .taken)
+returns-6 c =
+    let back = c .before .before in
+    let if5 = back .if5 in
+    let if4 = back .before .before .if4 in
+    let if3 = back .before .before .before .if3 in
+    let if2 = back .before .before .before .before .before .if2 in
+    let if1 = back .before .before .before .before .before .before .before .if1 in
+    frame-3 _ _ (if1 .left) (if2 .left) (if3 .left) (if4 .left) (if5 .left) (c .if6 .taken)
 
 big4-requires : tie.Need-big4-requires
 big4-requires c κs = omega arith
@@ -42,10 +63,32 @@ segment-at-requires : tie.Need-segment-at-requires
 segment-at-requires c κs = search needs
 
 returns-7 : tie.Need-returns-7
-returns-7 c = frame-fits _ _ (c .before .before .before .before .before .before .before .before .before .before .before .before .if1 .left) (c .before .before .before .before .before .before .before .before .before .before .if2 .left) (c .before .before .before .before .before .before .before .before .if3 .left) (c .before .before .before .before .before .before .before .if4 .left) (c .before .before .before .before .before .if5 .left) (c .before .before .before .if6 .left) (c .before .before .big4 .ensures) (c .before .segment-at .ensures) (c .if7 .taken)
+returns-7 c =
+    let segment-at = c .before .segment-at in
+    let back = c .before .before in
+    let big4 = back .big4 in
+    let if6 = back .before .if6 in
+    let back = back .before .before .before in
+    let if5 = back .if5 in
+    let if4 = back .before .before .if4 in
+    let if3 = back .before .before .before .if3 in
+    let if2 = back .before .before .before .before .before .if2 in
+    let if1 = back .before .before .before .before .before .before .before .if1 in
+    frame-fits _ _ (if1 .left) (if2 .left) (if3 .left) (if4 .left) (if5 .left) (if6 .left) (big4 .ensures) (segment-at .ensures) (c .if7 .taken)
 
 returns-8 : tie.Need-returns-8
-returns-8 c = frame-long _ _ (c .before .before .before .before .before .before .before .before .before .before .before .before .if1 .left) (c .before .before .before .before .before .before .before .before .before .before .if2 .left) (c .before .before .before .before .before .before .before .before .if3 .left) (c .before .before .before .before .before .before .before .if4 .left) (c .before .before .before .before .before .if5 .left) (c .before .before .before .if6 .left) (c .before .before .big4 .ensures) (c .before .segment-at .ensures) (c .if7 .left)
+returns-8 c =
+    let segment-at = c .before .segment-at in
+    let back = c .before .before in
+    let big4 = back .big4 in
+    let if6 = back .before .if6 in
+    let back = back .before .before .before in
+    let if5 = back .if5 in
+    let if4 = back .before .before .if4 in
+    let if3 = back .before .before .before .if3 in
+    let if2 = back .before .before .before .before .before .if2 in
+    let if1 = back .before .before .before .before .before .before .before .if1 in
+    frame-long _ _ (if1 .left) (if2 .left) (if3 .left) (if4 .left) (if5 .left) (if6 .left) (big4 .ensures) (segment-at .ensures) (c .if7 .left)
 
 pub index-frame-spec : {M : Type 1} → statement M
 index-frame-spec =

@@ -27,14 +27,23 @@ add-result-2 : tie.Need-add-result-2
 add-result-2 c = omega arith
 
 mul-result-2 : tie.Need-mul-result-2
-mul-result-2 c = omega (arith, size-low (c .before .before .args .g .0) (8 + 2 * (c .before .wide-size .result) + (c .wide-size2 .result)) (omega arith) (omega arith))
+mul-result-2 c =
+    let wide-size = c .before .wide-size in
+    let args = c .before .before .args in
+    omega (arith, size-low (args .g .0) (8 + 2 * (wide-size .result) + (c .wide-size2 .result)) (omega arith) (omega arith))
 
 add-result-3 : tie.Need-add-result-3
-add-result-3 c = omega (arith, size-low (c .before .before .args .g .0) (8 + 2 * (c .before .wide-size .result) + (c .wide-size2 .result)) (omega arith) (omega arith))
+add-result-3 c =
+    let wide-size = c .before .wide-size in
+    let args = c .before .before .args in
+    omega (arith, size-low (args .g .0) (8 + 2 * (wide-size .result) + (c .wide-size2 .result)) (omega arith) (omega arith))
 
 returns : tie.Need-returns
 unfolding segmentAt headSize
-returns c = ap₂ (λ (a b : ℕ). 8 + (c .before .before .args .g .0) * (8 + 2 * a + b)) (c .before .wide-size .ensures) (c .wide-size2 .ensures)
+returns c =
+    let wide-size = c .before .wide-size in
+    let args = c .before .before .args in
+    ap₂ (λ (a b : ℕ). 8 + (args .g .0) * (8 + 2 * a + b)) (wide-size .ensures) (c .wide-size2 .ensures)
 
 pub segment-at-spec : {M : Type 1} → statement M
 segment-at-spec =

@@ -18,11 +18,25 @@ enum-known-d : tie.Need-enum-known-d
 enum-known-d c = search needs
 
 next-framed-requires : tie.Need-next-framed-requires
-next-framed-requires c κs = (opened _ (c .before .before .before .before .before .tray-frame .ensures) (c .before .before .before .before .if1 .taken), laid _ _ (opened _ (c .before .before .before .before .before .tray-frame .ensures) (c .before .before .before .before .if1 .taken) .runs) (sym (c .before .d .given .1) ∙ c .before .before .before .index-frame .ensures))
+next-framed-requires c κs =
+    let d = c .before .d in
+    let index-frame = c .before .before .before .index-frame in
+    let if1 = c .before .before .before .before .if1 in
+    let tray-frame = c .before .before .before .before .before .tray-frame in (
+      opened _ (tray-frame .ensures) (if1 .taken),
+      laid _ _ (opened _ (tray-frame .ensures) (if1 .taken) .runs) (sym (d .given .1) ∙ index-frame .ensures),
+    )
 
 returns : tie.Need-returns
 unfolding nextAnswer
-returns c = frames-fit (refusedNext (c .before .before .before .before .before .before .before .before .before .args .from)) _ (c .before .before .before .before .before .before .tray-frame .ensures) (c .before .before .before .before .before .if1 .taken) _ (sym (c .before .before .d .given .1) ∙ c .before .before .before .before .index-frame .ensures) (c .next-framed .ensures)
+returns c =
+    let back = c .before .before in
+    let d = back .d in
+    let index-frame = back .before .before .index-frame in
+    let if1 = back .before .before .before .if1 in
+    let tray-frame = back .before .before .before .before .tray-frame in
+    let args = back .before .before .before .before .before .before .before .args in
+    frames-fit (refusedNext (args .from)) _ (tray-frame .ensures) (if1 .taken) _ (sym (d .given .1) ∙ index-frame .ensures) (c .next-framed .ensures)
 
 enum-told : tie.Need-enum-told
 enum-told c = search needs
@@ -32,14 +46,32 @@ next-refused-requires c κs = search needs
 
 returns-2 : tie.Need-returns-2
 unfolding nextAnswer
-returns-2 c = frames-index (refusedNext (c .before .before .before .before .before .before .before .before .args .from)) _ (c .before .before .before .before .before .tray-frame .ensures) (c .before .before .before .before .if1 .taken) _ (sym (c .before .enum-told .given .1) ∙ c .before .before .before .index-frame .ensures) (c .next-refused .ensures)
+returns-2 c =
+    let enum-told = c .before .enum-told in
+    let back = c .before .before .before in
+    let index-frame = back .index-frame in
+    let if1 = back .before .if1 in
+    let tray-frame = back .before .before .tray-frame in
+    let args = back .before .before .before .before .before .args in
+    frames-index
+    (refusedNext (args .from))
+    _
+    (tray-frame .ensures)
+    (if1 .taken)
+    _
+    (sym (enum-told .given .1) ∙ index-frame .ensures)
+    (c .next-refused .ensures)
 
 next-refused-requires-2 : tie.Need-next-refused-requires-2
 next-refused-requires-2 c κs = search needs
 
 returns-3 : tie.Need-returns-3
 unfolding nextAnswer
-returns-3 c = frames-tray (refusedNext (c .before .before .before .before .before .args .from)) _ (c .before .before .tray-frame .ensures) _ (c .before .if1 .left) (c .next-refused2 .ensures)
+returns-3 c =
+    let if1 = c .before .if1 in
+    let tray-frame = c .before .before .tray-frame in
+    let args = c .before .before .before .before .before .args in
+    frames-tray (refusedNext (args .from)) _ (tray-frame .ensures) _ (if1 .left) (c .next-refused2 .ensures)
 
 pub next-spec : {M : Type 1} → statement M
 next-spec =

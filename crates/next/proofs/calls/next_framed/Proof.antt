@@ -20,15 +20,47 @@ place-numbers-requires c κs = search needs
 
 -- src/calls.rt:30:8
 belongs-requires : tie.Need-belongs-requires
-belongs-requires c κs = ((walking (c .before .before .before .before .before .before .pre .0) (c .before .before .before .before .before .before .pre .1)) .index, (walking (c .before .before .before .before .before .before .pre .0) (c .before .before .before .before .before .before .pre .1)) .few)
+belongs-requires c κs =
+    let opened = c .before .before .before .before .before .before .pre .0 in
+    let laid = c .before .before .before .before .before .before .pre .1 in
+    ((walking opened laid) .index, (walking opened laid) .few)
 
 -- src/calls.rt:32:13
 next-from-requires : tie.Need-next-from-requires
-next-from-requires c κs = (going (c .before .before .before .before .before .before .before .before .before .before .before .pre .0) (c .before .before .before .before .before .before .before .before .before .before .before .pre .1), ((c .before .if2 .taken, belongs-low (walking (c .before .before .before .before .before .before .before .before .before .before .before .pre .0) (c .before .before .before .before .before .before .before .before .before .before .before .pre .1)) _ (told-spot _ _ (c .before .before .before .before .before .before .before .before .before .before .before .args .from) (c .before .before .before .before .before .before .before .place-numbers .ensures) (c .before .before .before .before .belongs .ensures)) (c .before .before .before .if1 .taken) (c .before .if2 .taken)), c .before .before .before .before .before .before .before .place-numbers .ensures))
+next-from-requires c κs =
+    let if2 = c .before .if2 in
+    let back = c .before .before .before in
+    let if1 = back .if1 in
+    let belongs = back .before .belongs in
+    let back = back .before .before .before .before in
+    let place-numbers = back .place-numbers in
+    let back = back .before .before .before .before in
+    let args = back .args in
+    let opened = back .pre .0 in
+    let laid = back .pre .1 in (
+      going opened laid,
+      (
+        (
+          if2 .taken,
+          belongs-low (walking opened laid) _ (told-spot _ _ (args .from) (place-numbers .ensures) (belongs .ensures)) (if1 .taken) (if2 .taken),
+        ),
+        place-numbers .ensures,
+      ),
+    )
 
 -- src/calls.rt:32:13
 returns : tie.Need-returns
-returns c = told-is (walking (c .before .before .before .before .before .before .before .before .before .before .before .before .pre .0) (c .before .before .before .before .before .before .before .before .before .before .before .before .pre .1)) _ (told-spot _ _ (c .before .before .before .before .before .before .before .before .before .before .before .before .args .from) (c .before .before .before .before .before .before .before .before .place-numbers .ensures) (c .before .before .before .before .before .belongs .ensures)) (c .before .before .before .before .if1 .taken) (c .next-from .ensures)
+returns c =
+    let back = c .before .before .before .before in
+    let if1 = back .if1 in
+    let belongs = back .before .belongs in
+    let back = back .before .before .before .before in
+    let place-numbers = back .place-numbers in
+    let back = back .before .before .before .before in
+    let args = back .args in
+    let opened = back .pre .0 in
+    let laid = back .pre .1 in
+    told-is (walking opened laid) _ (told-spot _ _ (args .from) (place-numbers .ensures) (belongs .ensures)) (if1 .taken) (c .next-from .ensures)
 
 -- src/calls.rt:34:9
 next-ends-requires : tie.Need-next-ends-requires
@@ -36,7 +68,24 @@ next-ends-requires c κs = search needs
 
 -- src/calls.rt:34:9
 returns-2 : tie.Need-returns-2
-returns-2 c = next-ends (walking (c .before .before .before .before .before .before .before .before .before .before .before .pre .0) (c .before .before .before .before .before .before .before .before .before .before .before .pre .1)) _ (told-spot _ _ (c .before .before .before .before .before .before .before .before .before .before .before .args .from) (c .before .before .before .before .before .before .before .place-numbers .ensures) (c .before .before .before .before .belongs .ensures)) (c .before .before .before .if1 .taken) (c .before .if2 .left) (c .next-ends .ensures)
+returns-2 c =
+    let if2 = c .before .if2 in
+    let back = c .before .before .before in
+    let if1 = back .if1 in
+    let belongs = back .before .belongs in
+    let back = back .before .before .before .before in
+    let place-numbers = back .place-numbers in
+    let back = back .before .before .before .before in
+    let args = back .args in
+    let opened = back .pre .0 in
+    let laid = back .pre .1 in
+    next-ends
+    (walking opened laid)
+    _
+    (told-spot _ _ (args .from) (place-numbers .ensures) (belongs .ensures))
+    (if1 .taken)
+    (if2 .left)
+    (c .next-ends .ensures)
 
 -- src/calls.rt:36:40
 cast-t17 : tie.Need-cast-t17
@@ -48,7 +97,17 @@ next-refused-requires c κs = search needs
 
 -- src/calls.rt:20:1
 returns-3 : tie.Need-returns-3
-returns-3 c = next-off (walking (c .before .before .before .before .before .before .before .before .before .before .pre .0) (c .before .before .before .before .before .before .before .before .before .before .pre .1)) _ (told-spot _ _ (c .before .before .before .before .before .before .before .before .before .before .args .from) (c .before .before .before .before .before .before .place-numbers .ensures) (c .before .before .before .belongs .ensures)) (c .before .before .if1 .left) (c .next-refused .ensures)
+returns-3 c =
+    let back = c .before .before in
+    let if1 = back .if1 in
+    let belongs = back .before .belongs in
+    let back = back .before .before .before .before in
+    let place-numbers = back .place-numbers in
+    let back = back .before .before .before .before in
+    let args = back .args in
+    let opened = back .pre .0 in
+    let laid = back .pre .1 in
+    next-off (walking opened laid) _ (told-spot _ _ (args .from) (place-numbers .ensures) (belongs .ensures)) (if1 .left) (c .next-refused .ensures)
 
 pub next-framed-spec : {M : Type 1} → statement M
 next-framed-spec =

@@ -38,11 +38,15 @@ abbrev μ-walk : tie.MeasureT-walk
 
 -- src/next.rt:73:18
 past-gap-requires : tie.Need-past-gap-requires Inv-loop μ-loop Inv-walk μ-walk
-past-gap-requires c κs = omega (arith, c .before .before .pre .1 .0 .1)
+past-gap-requires c κs =
+    let pre = c .before .before .pre in
+    omega (arith, pre .1 .0 .1)
 
 -- src/next.rt:75:14
 past-record-requires : tie.Need-past-record-requires Inv-loop μ-loop Inv-walk μ-walk
-past-record-requires c κs = (omega (arith, c .before .before .before .before .pre .1 .0 .1), omega (arith, c .before .before .before .before .pre .1 .1 .0 (c .if1 .taken)), c .before .before .before .before .pre .1 .1 .1 (c .if1 .taken))
+past-record-requires c κs =
+    let pre = c .before .before .before .before .pre in
+    (omega (arith, pre .1 .0 .1), omega (arith, pre .1 .1 .0 (c .if1 .taken)), pre .1 .1 .1 (c .if1 .taken))
 
 -- src/next.rt:78:9
 wide-size-requires : tie.Need-wide-size-requires Inv-loop μ-loop Inv-walk μ-walk
@@ -54,7 +58,24 @@ wide-size-requires-2 c κs = search needs
 
 -- src/next.rt:80:5
 walk-holds : tie.Need-walk-holds Inv-loop μ-loop Inv-walk μ-walk
-walk-holds c = starts (c .before .before .before .before .before .before .pre .0) _ (c .before .before .before .before .before .before .args .from) _ (⊎-elim (λ w. ap spotOf (w .2) ∙ passed-record _ (w .0 .taken) (w .1 .ensures)) (λ w. ap spotOf (w .1) ∙ passed-gap _ (w .0 .left) (c .before .before .before .past-gap .ensures)) (c .before .before .if1 .came)) (c .wide-size2 .ensures) (c .before .before .before .before .before .before .pre .1 .0 .0) (c .before .before .before .before .before .before .pre .1 .0 .1) (sym (length-map (c .before .before .before .before .before .before .args .from .places) _) ∙ c .before .before .before .before .before .before .good .1 .1 .1 .1 .1 .0 .1 .1 .1 .1 .0 .1 .0 .1)
+walk-holds c =
+    let back = c .before .before in
+    let if1 = back .if1 in
+    let past-gap = back .before .past-gap in
+    let back = back .before .before .before .before in
+    let args = back .args in
+    let from-good = back .good .1 .1 .1 .1 .1 .0 in
+    let pre = back .pre in
+    let going = back .pre .0 in
+    starts going _
+    (args .from)
+    _
+    (⊎-elim (λ w. ap spotOf (w .2) ∙ passed-record _ (w .0 .taken) (w .1 .ensures))
+    (λ w. ap spotOf (w .1) ∙ passed-gap _ (w .0 .left) (past-gap .ensures)) (if1 .came))
+    (c .wide-size2 .ensures)
+    (pre .1 .0 .0)
+    (pre .1 .0 .1)
+    (sym (length-map (args .from .places) _) ∙ from-good .1 .1 .1 .1 .0 .1 .0 .1)
 
 -- src/next.rt:81:21
 segment-at-requires : tie.Need-segment-at-requires Inv-loop μ-loop Inv-walk μ-walk
@@ -62,7 +83,10 @@ segment-at-requires c κs = search needs
 
 -- src/next.rt:81:21
 add-first : tie.Need-add-first Inv-loop μ-loop Inv-walk μ-walk
-add-first c = omega (arith, within (walks (c .before .before .before .before .before .before .before .before .pre .0)) (c .before .walk .inv .on .inside) (c .segment-at .ensures))
+add-first c =
+    let walk = c .before .walk in
+    let going = c .before .before .before .before .before .before .before .before .pre .0 in
+    omega (arith, within (walks going) (walk .inv .on .inside) (c .segment-at .ensures))
 
 -- src/next.rt:81:62
 wide-size-requires-3 : tie.Need-wide-size-requires-3 Inv-loop μ-loop Inv-walk μ-walk
@@ -74,19 +98,39 @@ mul-first c = omega (arith, c .wide-size3 .ensures)
 
 -- src/next.rt:81:21
 add-first-2 : tie.Need-add-first-2 Inv-loop μ-loop Inv-walk μ-walk
-add-first-2 c = omega (arith, within (walks (c .before .before .before .before .before .before .before .before .before .pre .0)) (c .before .before .walk .inv .on .inside) (c .before .segment-at .ensures), c .wide-size3 .ensures)
+add-first-2 c =
+    let segment-at = c .before .segment-at in
+    let walk = c .before .before .walk in
+    let going = c .before .before .before .before .before .before .before .before .before .pre .0 in
+    omega (arith, within (walks going) (walk .inv .on .inside) (segment-at .ensures), c .wide-size3 .ensures)
 
 -- src/next.rt:82:9
 loop-holds : tie.Need-loop-holds Inv-loop μ-loop Inv-walk μ-walk
-loop-holds c = here-at (walks (c .before .before .before .before .before .before .before .before .before .pre .0)) _ _ _ 0 (c .before .before .walk .inv .on .inside) (c .before .before .walk .inv .on .high) (c .before .before .walk .inv .room)
+loop-holds c =
+    let walk = c .before .before .walk in
+    let going = c .before .before .before .before .before .before .before .before .before .pre .0 in
+    here-at (walks going) _ _ _ 0 (walk .inv .on .inside) (walk .inv .on .high) (walk .inv .room)
 
 -- src/next.rt:83:23
 add-v : tie.Need-add-v Inv-loop μ-loop Inv-walk μ-walk
-add-v c = omega (arith, within (walks (c .before .before .before .before .before .before .before .before .before .before .before .pre .0)) (c .before .before .before .before .walk .inv .on .inside) (c .before .before .before .segment-at .ensures), c .before .before .wide-size3 .ensures, c .before .before .before .before .before .before .wide-size .ensures)
+add-v c =
+    let wide-size3-ensures = c .before .before .wide-size3 .ensures in
+    let segment-at-ensures = c .before .before .before .segment-at .ensures in
+    let walk-inv-on-inside = c .before .before .before .before .walk .inv .on .inside in
+    let wide-size-ensures = c .before .before .before .before .before .before .wide-size .ensures in
+    let going = c .before .before .before .before .before .before .before .before .before .before .before .pre .0 in
+    omega (arith, within (walks going) walk-inv-on-inside segment-at-ensures, wide-size3-ensures, wide-size-ensures)
 
 -- src/next.rt:83:21
 shared-slice-read-v : tie.Need-shared-slice-read-v Inv-loop μ-loop Inv-walk μ-walk
-shared-slice-read-v c = omega (arith, within (walks (c .before .before .before .before .before .before .before .before .before .before .before .before .pre .0)) (c .before .before .before .before .before .walk .inv .on .inside) (c .before .before .before .before .segment-at .ensures), c .before .before .before .wide-size3 .ensures, c .before .before .before .before .before .before .before .wide-size .ensures)
+shared-slice-read-v c =
+    let back = c .before .before .before in
+    let wide-size3 = back .wide-size3 in
+    let segment-at = back .before .segment-at in
+    let walk = back .before .before .walk in
+    let wide-size = back .before .before .before .before .wide-size in
+    let going = back .before .before .before .before .before .before .before .before .before .pre .0 in
+    omega (arith, within (walks going) (walk .inv .on .inside) (segment-at .ensures), wide-size3 .ensures, wide-size .ensures)
 
 -- src/next.rt:85:17
 add-s : tie.Need-add-s Inv-loop μ-loop Inv-walk μ-walk
@@ -98,7 +142,19 @@ loop-less c = omega arith
 
 -- src/next.rt:82:9
 loop-again : tie.Need-loop-again Inv-loop μ-loop Inv-walk μ-walk
-loop-again c = on-gap (c .before .before .before .before .before .before .before .before .before .before .before .before .before .pre .0) (c .before .before .before .loop .inv) (omega (arith, c .before .before .loop-test .taken, c .before .before .before .before .before .before .before .before .wide-size .ensures)) (selector-is (walks (c .before .before .before .before .before .before .before .before .before .before .before .before .before .pre .0)) _ _ (c .before .before .before .before .before .segment-at .ensures) (omega (arith, c .before .before .before .before .wide-size3 .ensures)) refl) (c .if2 .taken)
+loop-again c =
+    let back = c .before .before in
+    let loop-test = back .loop-test in
+    let loop = back .before .loop in
+    let wide-size3 = back .before .before .wide-size3 in
+    let segment-at = back .before .before .before .segment-at in
+    let wide-size = back .before .before .before .before .before .before .wide-size in
+    let going = back .before .before .before .before .before .before .before .before .before .before .before .pre .0 in
+    on-gap going
+    (loop .inv)
+    (omega (arith, loop-test .taken, wide-size .ensures))
+    (selector-is (walks going) _ _ (segment-at .ensures) (omega (arith, wide-size3 .ensures)) refl)
+    (c .if2 .taken)
 
 -- src/next.rt:90:21
 wide-size-requires-4 : tie.Need-wide-size-requires-4 Inv-loop μ-loop Inv-walk μ-walk
@@ -110,19 +166,57 @@ mul-p c = omega arith
 
 -- src/next.rt:91:25
 element-copy-out-p : tie.Need-element-copy-out-p Inv-loop μ-loop Inv-walk μ-walk
-element-copy-out-p c = omega (arith, c .before .before .before .before .before .before .before .before .before .before .before .before .before .before .before .pre .0 .few, c .wide-size4 .ensures)
+element-copy-out-p c =
+    let going = c .before .before .before .before .before .before .before .before .before .before .before .before .before .before .before .pre .0 in
+    omega (arith, going .few, c .wide-size4 .ensures)
 
 -- src/next.rt:93:24
 count-of-requires : tie.Need-count-of-requires Inv-loop μ-loop Inv-walk μ-walk
-count-of-requires c κs = omega (arith, c .before .before .before .before .before .before .before .before .before .before .before .before .before .before .before .before .pre .0 .header, c .before .before .if3 .taken)
+count-of-requires c κs =
+    let if3 = c .before .before .if3 in
+    let going =
+    c .before .before .before .before .before .before .before .before .before .before .before .before .before .before .before .before .pre .0 in
+    omega (arith, going .header, if3 .taken)
 
 -- src/next.rt:95:37
 found-next-requires : tie.Need-found-next-requires Inv-loop μ-loop Inv-walk μ-walk
-found-next-requires c κs = omega (arith, c .before .before .before .before .before .before .before .before .loop-test .taken, c .before .before .before .before .before .before .before .before .before .before .before .before .before .before .wide-size .ensures)
+found-next-requires c κs =
+    let back = c .before .before .before .before .before .before .before .before in
+    let loop-test = back .loop-test in
+    let wide-size = back .before .before .before .before .before .before .wide-size in
+    omega (arith, loop-test .taken, wide-size .ensures)
 
 -- src/next.rt:97:42
 add-t44 : tie.Need-add-t44 Inv-loop μ-loop Inv-walk μ-walk
-add-t44 c = omega (arith, may-raise (c .before .before .before .before .before .before .before .before .before .before .before .before .before .before .before .before .before .before .before .pre .0) (c .before .before .before .before .before .before .before .before .before .loop .inv) (omega (arith, c .before .before .before .before .before .before .before .before .loop-test .taken, c .before .before .before .before .before .before .before .before .before .before .before .before .before .before .wide-size .ensures)) (selector-is (walks (c .before .before .before .before .before .before .before .before .before .before .before .before .before .before .before .before .before .before .before .pre .0)) _ _ (c .before .before .before .before .before .before .before .before .before .before .before .segment-at .ensures) (omega (arith, c .before .before .before .before .before .before .before .before .before .before .wide-size3 .ensures)) refl) (c .before .before .before .before .before .before .if2 .left) (c .before .before .before .before .before .if3 .taken) (c .before .before .before .before .wide-size4 .ensures) (c .before .before .count-of .ensures) (omega (arith, c .before .if4 .taken)))
+add-t44 c =
+    let back = c .before in
+    let if4 = back .if4 in
+    let back = back .before in
+    let count-of = back .count-of in
+    let back = back .before .before in
+    let wide-size4 = back .wide-size4 in
+    let if3 = back .before .if3 in
+    let back = back .before .before in
+    let if2 = back .if2 in
+    let back = back .before .before in
+    let loop-test = back .loop-test in
+    let loop = back .before .loop in
+    let wide-size3 = back .before .before .wide-size3 in
+    let segment-at = back .before .before .before .segment-at in
+    let wide-size = back .before .before .before .before .before .before .wide-size in
+    let going = back .before .before .before .before .before .before .before .before .before .before .before .pre .0 in
+    omega (
+      arith,
+      may-raise going
+          (loop .inv)
+          (omega (arith, loop-test .taken, wide-size .ensures))
+          (selector-is (walks going) _ _ (segment-at .ensures) (omega (arith, wide-size3 .ensures)) refl)
+          (if2 .left)
+          (if3 .taken)
+          (wide-size4 .ensures)
+          (count-of .ensures)
+          (omega (arith, if4 .taken)),
+    )
 
 -- src/next.rt:97:21
 mul-t46 : tie.Need-mul-t46 Inv-loop μ-loop Inv-walk μ-walk
@@ -130,7 +224,12 @@ mul-t46 c = omega arith
 
 -- src/next.rt:97:21
 element-set-from-at : tie.Need-element-set-from-at Inv-loop μ-loop Inv-walk μ-walk
-element-set-from-at c = omega (arith, c .before .before .before .before .before .before .before .before .before .before .before .before .before .before .before .before .before .before .before .pre .0 .few, c .before .before .before .before .wide-size4 .ensures)
+element-set-from-at c =
+    let wide-size4 = c .before .before .before .before .wide-size4 in
+    let going =
+    c .before .before .before .before .before .before .before .before .before .before .before .before .before .before .before .before .before .before
+    .before .pre .0 in
+    omega (arith, going .few, wide-size4 .ensures)
 
 -- src/next.rt:98:21
 add-s-2 : tie.Need-add-s-2 Inv-loop μ-loop Inv-walk μ-walk
@@ -142,7 +241,33 @@ loop-less-2 c = omega arith
 
 -- src/next.rt:82:9
 loop-again-2 : tie.Need-loop-again-2 Inv-loop μ-loop Inv-walk μ-walk
-loop-again-2 c = on-go (c .before .before .before .before .before .before .before .before .before .before .before .before .before .before .before .before .before .before .before .pre .0) (c .before .before .before .before .before .before .before .before .before .loop .inv) (omega (arith, c .before .before .before .before .before .before .before .before .loop-test .taken, c .before .before .before .before .before .before .before .before .before .before .before .before .before .before .wide-size .ensures)) (selector-is (walks (c .before .before .before .before .before .before .before .before .before .before .before .before .before .before .before .before .before .before .before .pre .0)) _ _ (c .before .before .before .before .before .before .before .before .before .before .before .segment-at .ensures) (omega (arith, c .before .before .before .before .before .before .before .before .before .before .wide-size3 .ensures)) refl) (c .before .before .before .before .before .before .if2 .left) (c .before .before .before .before .before .if3 .taken) (c .before .before .before .before .wide-size4 .ensures) (c .before .before .count-of .ensures) (omega (arith, c .before .if4 .taken)) (omega (arith, c .if5 .left))
+loop-again-2 c =
+    let back = c .before in
+    let if4 = back .if4 in
+    let back = back .before in
+    let count-of = back .count-of in
+    let back = back .before .before in
+    let wide-size4 = back .wide-size4 in
+    let if3 = back .before .if3 in
+    let back = back .before .before in
+    let if2 = back .if2 in
+    let back = back .before .before in
+    let loop-test = back .loop-test in
+    let loop = back .before .loop in
+    let wide-size3 = back .before .before .wide-size3 in
+    let segment-at = back .before .before .before .segment-at in
+    let wide-size = back .before .before .before .before .before .before .wide-size in
+    let going = back .before .before .before .before .before .before .before .before .before .before .before .pre .0 in
+    on-go going
+    (loop .inv)
+    (omega (arith, loop-test .taken, wide-size .ensures))
+    (selector-is (walks going) _ _ (segment-at .ensures) (omega (arith, wide-size3 .ensures)) refl)
+    (if2 .left)
+    (if3 .taken)
+    (wide-size4 .ensures)
+    (count-of .ensures)
+    (omega (arith, if4 .taken))
+    (omega (arith, c .if5 .left))
 
 -- src/next.rt:101:65
 cast-t49 : tie.Need-cast-t49 Inv-loop μ-loop Inv-walk μ-walk
@@ -162,7 +287,9 @@ next-refused-requires-2 c κs = search needs
 
 -- src/next.rt:105:9
 add-g : tie.Need-add-g Inv-loop μ-loop Inv-walk μ-walk
-add-g c = omega (arith, c .before .loop .inv .on .inside)
+add-g c =
+    let loop = c .before .loop in
+    omega (arith, loop .inv .on .inside)
 
 -- src/next.rt:107:25
 next-ends-requires : tie.Need-next-ends-requires Inv-loop μ-loop Inv-walk μ-walk
@@ -174,7 +301,10 @@ segment-at-requires-2 c κs = search needs
 
 -- src/next.rt:109:13
 load-requires : tie.Need-load-requires Inv-loop μ-loop Inv-walk μ-walk
-load-requires c κs = (omega (arith, within (walks (c .before .before .before .before .before .before .before .before .before .before .before .before .before .pre .0)) (c .before .if6 .left) (c .segment-at2 .ensures)), c .before .before .before .before .before .before .before .before .before .before .before .before .before .pre .0 .few)
+load-requires c κs =
+    let if6 = c .before .if6 in
+    let going = c .before .before .before .before .before .before .before .before .before .before .before .before .before .pre .0 in
+    (omega (arith, within (walks going) (if6 .left) (c .segment-at2 .ensures)), going .few)
 
 -- src/next.rt:80:5
 walk-less : tie.Need-walk-less Inv-loop μ-loop Inv-walk μ-walk
@@ -182,23 +312,117 @@ walk-less c = omega arith
 
 -- src/next.rt:80:5
 walk-again : tie.Need-walk-again Inv-loop μ-loop Inv-walk μ-walk
-walk-again c = here-into (walks (c .before .before .before .before .before .before .before .before .before .before .before .before .before .before .pre .0)) (here-enter (walks (c .before .before .before .before .before .before .before .before .before .before .before .before .before .before .pre .0)) (c .before .before .before .before .loop .inv) (omega (arith, c .before .before .before .loop-test .left, c .before .before .before .before .before .before .before .before .before .wide-size .ensures)) (c .before .before .if6 .left) (c .before .segment-at2 .ensures) (c .load .ensures)) (here-whole (walks (c .before .before .before .before .before .before .before .before .before .before .before .before .before .before .pre .0)) (c .before .before .before .before .before .before .before .walk .inv))
+walk-again c =
+    let segment-at2 = c .before .segment-at2 in
+    let back = c .before .before in
+    let if6 = back .if6 in
+    let loop-test = back .before .loop-test in
+    let loop = back .before .before .loop in
+    let back = back .before .before .before .before .before in
+    let walk = back .walk in
+    let wide-size = back .before .before .wide-size in
+    let going = back .before .before .before .before .before .before .before .pre .0 in
+    here-into
+    (walks going)
+    (here-enter (walks going) (loop .inv) (omega (arith, loop-test .left, wide-size .ensures)) (if6 .left) (segment-at2 .ensures) (c .load .ensures))
+    (here-whole (walks going) (walk .inv))
 
 -- src/next.rt:67:1
 returns : tie.Need-returns Inv-loop μ-loop Inv-walk μ-walk
-returns c = told-found _ _ _ _ _ (omega (arith, c .before .if5 .taken)) (c .before .before .before .before .before .wide-size4 .ensures) (on-stay (c .before .before .before .before .before .before .before .before .before .before .before .before .before .before .before .before .before .before .before .before .pre .0) (c .before .before .before .before .before .before .before .before .before .before .loop .inv) (omega (arith, c .before .before .before .before .before .before .before .before .before .loop-test .taken, c .before .before .before .before .before .before .before .before .before .before .before .before .before .before .before .wide-size .ensures)) (selector-is (walks (c .before .before .before .before .before .before .before .before .before .before .before .before .before .before .before .before .before .before .before .before .pre .0)) _ _ (c .before .before .before .before .before .before .before .before .before .before .before .before .segment-at .ensures) (omega (arith, c .before .before .before .before .before .before .before .before .before .before .before .wide-size3 .ensures)) refl) (c .before .before .before .before .before .before .before .if2 .left) (c .before .before .before .before .before .before .if3 .taken) (c .before .before .before .before .before .wide-size4 .ensures) (c .before .before .before .count-of .ensures) (omega (arith, c .before .before .if4 .taken)) (omega (arith, c .before .if5 .taken)) ∙ here-whole (walks (c .before .before .before .before .before .before .before .before .before .before .before .before .before .before .before .before .before .before .before .before .pre .0)) (c .before .before .before .before .before .before .before .before .before .before .before .before .before .walk .inv)) (c .found-next .ensures)
+returns c =
+    let back = c .before in
+    let if5 = back .if5 in
+    let back = back .before in
+    let if4 = back .if4 in
+    let back = back .before in
+    let count-of = back .count-of in
+    let back = back .before .before in
+    let wide-size4 = back .wide-size4 in
+    let back = back .before in
+    let if3 = back .if3 in
+    let if2 = back .before .if2 in
+    let back = back .before .before .before in
+    let loop-test = back .loop-test in
+    let loop = back .before .loop in
+    let back = back .before .before in
+    let wide-size3 = back .wide-size3 in
+    let segment-at = back .before .segment-at in
+    let walk = back .before .before .walk in
+    let wide-size = back .before .before .before .before .wide-size in
+    let going = back .before .before .before .before .before .before .before .before .before .pre .0 in
+    told-found _ _ _ _ _
+    (omega (arith, if5 .taken))
+    (wide-size4 .ensures)
+    (on-stay going (loop .inv) (omega (arith, loop-test .taken, wide-size .ensures))
+    (selector-is (walks going) _ _ (segment-at .ensures) (omega (arith, wide-size3 .ensures)) refl) (if2 .left) (if3 .taken) (wide-size4 .ensures)
+    (count-of .ensures) (omega (arith, if4 .taken)) (omega (arith, if5 .taken))
+    ∙ here-whole (walks going) (walk .inv))
+    (c .found-next .ensures)
 
 -- src/next.rt:67:1
 returns-2 : tie.Need-returns-2 Inv-loop μ-loop Inv-walk μ-walk
-returns-2 c = told-lost _ _ (lost-place (c .before .before .before .before .before .before .before .before .before .before .before .before .before .before .before .before .before .before .before .pre .0) (c .before .before .before .before .before .before .before .before .before .loop .inv) (omega (arith, c .before .before .before .before .before .before .before .before .loop-test .taken, c .before .before .before .before .before .before .before .before .before .before .before .before .before .before .wide-size .ensures)) (selector-is (walks (c .before .before .before .before .before .before .before .before .before .before .before .before .before .before .before .before .before .before .before .pre .0)) _ _ (c .before .before .before .before .before .before .before .before .before .before .before .segment-at .ensures) (omega (arith, c .before .before .before .before .before .before .before .before .before .before .wide-size3 .ensures)) refl) (c .before .before .before .before .before .before .if2 .left) (c .before .before .before .before .before .if3 .taken) (c .before .before .before .before .wide-size4 .ensures) (c .before .before .count-of .ensures) (omega (arith, c .before .if4 .left)) ∙ here-whole (walks (c .before .before .before .before .before .before .before .before .before .before .before .before .before .before .before .before .before .before .before .pre .0)) (c .before .before .before .before .before .before .before .before .before .before .before .before .walk .inv)) (c .next-refused .ensures)
+returns-2 c =
+    let back = c .before in
+    let if4 = back .if4 in
+    let back = back .before in
+    let count-of = back .count-of in
+    let back = back .before .before in
+    let wide-size4 = back .wide-size4 in
+    let back = back .before in
+    let if3 = back .if3 in
+    let if2 = back .before .if2 in
+    let back = back .before .before .before in
+    let loop-test = back .loop-test in
+    let loop = back .before .loop in
+    let back = back .before .before in
+    let wide-size3 = back .wide-size3 in
+    let segment-at = back .before .segment-at in
+    let walk = back .before .before .walk in
+    let wide-size = back .before .before .before .before .wide-size in
+    let going = back .before .before .before .before .before .before .before .before .before .pre .0 in
+    told-lost _ _
+    (lost-place going (loop .inv) (omega (arith, loop-test .taken, wide-size .ensures))
+    (selector-is (walks going) _ _ (segment-at .ensures) (omega (arith, wide-size3 .ensures)) refl) (if2 .left) (if3 .taken) (wide-size4 .ensures)
+    (count-of .ensures) (omega (arith, if4 .left))
+    ∙ here-whole (walks going) (walk .inv))
+    (c .next-refused .ensures)
 
 -- src/next.rt:67:1
 returns-3 : tie.Need-returns-3 Inv-loop μ-loop Inv-walk μ-walk
-returns-3 c = told-lost _ _ (lost-run (c .before .before .before .before .before .before .before .before .before .before .before .before .before .before .before .pre .0) (c .before .before .before .before .before .loop .inv) (omega (arith, c .before .before .before .before .loop-test .taken, c .before .before .before .before .before .before .before .before .before .before .wide-size .ensures)) (selector-is (walks (c .before .before .before .before .before .before .before .before .before .before .before .before .before .before .before .pre .0)) _ _ (c .before .before .before .before .before .before .before .segment-at .ensures) (omega (arith, c .before .before .before .before .before .before .wide-size3 .ensures)) refl) (c .before .before .if2 .left) (c .before .if3 .left) ∙ here-whole (walks (c .before .before .before .before .before .before .before .before .before .before .before .before .before .before .before .pre .0)) (c .before .before .before .before .before .before .before .before .walk .inv)) (c .next-refused2 .ensures)
+returns-3 c =
+    let back = c .before in
+    let if3 = back .if3 in
+    let if2 = back .before .if2 in
+    let back = back .before .before .before in
+    let loop-test = back .loop-test in
+    let loop = back .before .loop in
+    let back = back .before .before in
+    let wide-size3 = back .wide-size3 in
+    let segment-at = back .before .segment-at in
+    let walk = back .before .before .walk in
+    let wide-size = back .before .before .before .before .wide-size in
+    let going = back .before .before .before .before .before .before .before .before .before .pre .0 in
+    told-lost _ _
+    (lost-run going (loop .inv) (omega (arith, loop-test .taken, wide-size .ensures))
+    (selector-is (walks going) _ _ (segment-at .ensures) (omega (arith, wide-size3 .ensures)) refl) (if2 .left) (if3 .left)
+    ∙ here-whole (walks going) (walk .inv))
+    (c .next-refused2 .ensures)
 
 -- src/next.rt:67:1
 returns-4 : tie.Need-returns-4 Inv-loop μ-loop Inv-walk μ-walk
-returns-4 c = told-end _ _ (c .before .before .before .before .before .before .before .before .before .before .before .before .before .pre .0 .index .count) (here-end (walks (c .before .before .before .before .before .before .before .before .before .before .before .before .before .pre .0)) (c .before .before .before .loop .inv) (omega (arith, c .before .before .loop-test .left, c .before .before .before .before .before .before .before .before .wide-size .ensures)) (c .before .if6 .taken) ∙ here-whole (walks (c .before .before .before .before .before .before .before .before .before .before .before .before .before .pre .0)) (c .before .before .before .before .before .before .walk .inv)) (c .next-ends .ensures)
+returns-4 c =
+    let if6 = c .before .if6 in
+    let back = c .before .before in
+    let loop-test = back .loop-test in
+    let loop = back .before .loop in
+    let back = back .before .before .before .before in
+    let walk = back .walk in
+    let wide-size = back .before .before .wide-size in
+    let going = back .before .before .before .before .before .before .before .pre .0 in
+    told-end _ _
+    (going .index .count)
+    (here-end (walks going) (loop .inv) (omega (arith, loop-test .left, wide-size .ensures)) (if6 .taken) ∙ here-whole (walks going) (walk .inv))
+    (c .next-ends .ensures)
 
 pub first-from-spec : {M : Type 1} → statement M
 first-from-spec =

@@ -26,7 +26,10 @@ segment-at-requires c κs = search needs
 
 -- src/next.rt:148:15
 add-v : tie.Need-add-v
-add-v c = omega (arith, within (walks (c .before .before .before .before .pre .0)) (c .before .before .before .before .pre .1 .0 .0) (c .segment-at .ensures))
+add-v c =
+    let pre = c .before .before .before .before .pre in
+    let going = c .before .before .before .before .pre .0 in
+    omega (arith, within (walks going) (pre .1 .0 .0) (c .segment-at .ensures))
 
 -- src/next.rt:148:45
 wide-size-requires : tie.Need-wide-size-requires
@@ -38,7 +41,11 @@ mul-v c = omega (arith, c .wide-size .ensures)
 
 -- src/next.rt:148:15
 add-v-2 : tie.Need-add-v-2
-add-v-2 c = omega (arith, within (walks (c .before .before .before .before .before .pre .0)) (c .before .before .before .before .before .pre .1 .0 .0) (c .before .segment-at .ensures), c .wide-size .ensures)
+add-v-2 c =
+    let segment-at = c .before .segment-at in
+    let pre = c .before .before .before .before .before .pre in
+    let going = c .before .before .before .before .before .pre .0 in
+    omega (arith, within (walks going) (pre .1 .0 .0) (segment-at .ensures), c .wide-size .ensures)
 
 -- src/next.rt:148:60
 wide-size-requires-2 : tie.Need-wide-size-requires-2
@@ -46,23 +53,68 @@ wide-size-requires-2 c κs = search needs
 
 -- src/next.rt:148:15
 add-v-3 : tie.Need-add-v-3
-add-v-3 c = omega (arith, within (walks (c .before .before .before .before .before .before .pre .0)) (c .before .before .before .before .before .before .pre .1 .0 .0) (c .before .before .segment-at .ensures), c .before .wide-size .ensures, c .wide-size2 .ensures)
+add-v-3 c =
+    let wide-size = c .before .wide-size in
+    let segment-at = c .before .before .segment-at in
+    let pre = c .before .before .before .before .before .before .pre in
+    let going = c .before .before .before .before .before .before .pre .0 in
+    omega (arith, within (walks going) (pre .1 .0 .0) (segment-at .ensures), wide-size .ensures, c .wide-size2 .ensures)
 
 -- src/next.rt:148:13
 shared-slice-read-v : tie.Need-shared-slice-read-v
-shared-slice-read-v c = omega (arith, within (walks (c .before .before .before .before .before .before .before .pre .0)) (c .before .before .before .before .before .before .before .pre .1 .0 .0) (c .before .before .before .segment-at .ensures), c .before .before .wide-size .ensures, c .before .wide-size2 .ensures)
+shared-slice-read-v c =
+    let wide-size2 = c .before .wide-size2 in
+    let wide-size = c .before .before .wide-size in
+    let segment-at = c .before .before .before .segment-at in
+    let pre = c .before .before .before .before .before .before .before .pre in
+    let going = c .before .before .before .before .before .before .before .pre .0 in
+    omega (arith, within (walks going) (pre .1 .0 .0) (segment-at .ensures), wide-size .ensures, wide-size2 .ensures)
 
 -- src/next.rt:149:8
 passes-requires : tie.Need-passes-requires
-passes-requires c κs = (c .before .before .before .before .before .before .before .pre .0 .runs, c .before .before .before .before .before .before .before .pre .0 .few, c .before .before .before .before .before .before .before .pre .0 .header)
+passes-requires c κs =
+    let going = c .before .before .before .before .before .before .before .pre .0 in
+    (going .runs, going .few, going .header)
 
 -- src/next.rt:150:9
 first-from-requires : tie.Need-first-from-requires
-first-from-requires c κs = (c .before .before .before .before .before .before .before .before .before .pre .0, (c .before .before .before .before .before .before .before .before .before .pre .1 .0, ((λ real. omega (arith, c .before .before .before .before .before .before .before .before .before .pre .0 .few, may-run (c .before .before .before .before .before .before .before .before .before .pre .0) _ _ (may-named _ _ _ real (sym (c .before .passes .ensures) ∙ c .if1 .taken)))), (λ real. may-place (c .before .before .before .before .before .before .before .before .before .pre .0) _ _ (may-named _ _ _ real (sym (c .before .passes .ensures) ∙ c .if1 .taken)) _ (c .before .before .before .before .before .before .before .before .before .pre .1 .1)))))
+first-from-requires c κs =
+    let passes = c .before .passes in
+    let back = c .before .before .before .before .before .before .before .before .before in
+    let pre = back .pre in
+    let going = back .pre .0 in (
+      going,
+      (
+        pre .1 .0,
+        (
+          (λ real. omega (arith, going .few, may-run going _ _ (may-named _ _ _ real (sym (passes .ensures) ∙ c .if1 .taken)))),
+          (λ real. may-place going _ _ (may-named _ _ _ real (sym (passes .ensures) ∙ c .if1 .taken)) _ (pre .1 .1)),
+        ),
+      ),
+    )
 
 -- src/next.rt:150:9
 returns : tie.Need-returns
-returns c = c .first-from .ensures ∙ ap (nextTold _ _) (next-passed (c .before .before .before .before .before .before .before .before .before .before .pre .0) (c .before .before .before .before .before .before .before .before .before .before .args .from) (c .before .before .before .before .before .before .before .before .before .before .pre .1 .0 .0) (c .before .before .before .before .before .before .before .before .before .before .pre .1 .0 .1) (sym (length-map (c .before .before .before .before .before .before .before .before .before .before .args .from .places) _) ∙ c .before .before .before .before .before .before .before .before .before .before .good .1 .1 .1 .1 .1 .1 .0 .1 .1 .1 .1 .0 .1 .0 .1) (selector-is (walks (c .before .before .before .before .before .before .before .before .before .before .pre .0)) (c .before .before .before .before .before .before .before .before .before .before .args .from .segment .0) (c .before .before .before .before .before .before .before .before .before .before .args .from .selector) (c .before .before .before .before .before .before .segment-at .ensures) (omega (arith, c .before .before .before .before .before .wide-size .ensures)) (c .before .before .before .before .wide-size2 .ensures)) (c .before .before .before .before .before .before .before .before .before .before .pre .1 .1) (c .before .before .passes .ensures) (c .before .if1 .taken))
+returns c =
+    let back = c .before in
+    let if1 = back .if1 in
+    let passes = back .before .passes in
+    let back = back .before .before .before in
+    let wide-size2 = back .wide-size2 in
+    let wide-size = back .before .wide-size in
+    let back = back .before .before in
+    let segment-at = back .segment-at in
+    let back = back .before .before .before .before in
+    let args = back .args in
+    let from-good = back .good .1 .1 .1 .1 .1 .1 .0 in
+    let pre = back .pre in
+    let going = back .pre .0 in
+    c .first-from .ensures
+    ∙ ap
+    (nextTold _ _)
+    (next-passed going (args .from) (pre .1 .0 .0) (pre .1 .0 .1) (sym (length-map (args .from .places) _) ∙ from-good .1 .1 .1 .1 .0 .1 .0 .1)
+    (selector-is (walks going) (args .from .segment .0) (args .from .selector) (segment-at .ensures) (omega (arith, wide-size .ensures))
+    (wide-size2 .ensures)) (pre .1 .1) (passes .ensures) (if1 .taken))
 
 -- src/next.rt:152:43
 wide32-requires : tie.Need-wide32-requires
@@ -74,7 +126,28 @@ next-refused-requires c κs = search needs
 
 -- src/next.rt:132:1
 returns-2 : tie.Need-returns-2
-returns-2 c = told-lost _ _ (ap (λ (k : ℕ). lost (c .before .before .before .before .before .before .before .before .before .before .before .args .from .segment .0) k 0) (c .before .wide32 .ensures) ∙ next-lost (c .before .before .before .before .before .before .before .before .before .before .before .pre .0) (c .before .before .before .before .before .before .before .before .before .before .before .args .from) (c .before .before .before .before .before .before .before .before .before .before .before .pre .1 .0 .0) (c .before .before .before .before .before .before .before .before .before .before .before .pre .1 .0 .1) (sym (length-map (c .before .before .before .before .before .before .before .before .before .before .before .args .from .places) _) ∙ c .before .before .before .before .before .before .before .before .before .before .before .good .1 .1 .1 .1 .1 .1 .0 .1 .1 .1 .1 .0 .1 .0 .1) (selector-is (walks (c .before .before .before .before .before .before .before .before .before .before .before .pre .0)) (c .before .before .before .before .before .before .before .before .before .before .before .args .from .segment .0) (c .before .before .before .before .before .before .before .before .before .before .before .args .from .selector) (c .before .before .before .before .before .before .before .segment-at .ensures) (omega (arith, c .before .before .before .before .before .before .wide-size .ensures)) (c .before .before .before .before .before .wide-size2 .ensures)) (c .before .before .before .before .before .before .before .before .before .before .before .pre .1 .1) (c .before .before .before .passes .ensures) (c .before .before .if1 .left)) (c .next-refused .ensures)
+returns-2 c =
+    let back = c .before in
+    let wide32 = back .wide32 in
+    let back = back .before in
+    let if1 = back .if1 in
+    let passes = back .before .passes in
+    let back = back .before .before .before in
+    let wide-size2 = back .wide-size2 in
+    let wide-size = back .before .wide-size in
+    let back = back .before .before in
+    let segment-at = back .segment-at in
+    let back = back .before .before .before .before in
+    let args = back .args in
+    let from-good = back .good .1 .1 .1 .1 .1 .1 .0 in
+    let pre = back .pre in
+    let going = back .pre .0 in
+    told-lost _ _
+    (ap (λ (k : ℕ). lost (args .from .segment .0) k 0) (wide32 .ensures)
+    ∙ next-lost going (args .from) (pre .1 .0 .0) (pre .1 .0 .1) (sym (length-map (args .from .places) _) ∙ from-good .1 .1 .1 .1 .0 .1 .0 .1)
+    (selector-is (walks going) (args .from .segment .0) (args .from .selector) (segment-at .ensures) (omega (arith, wide-size .ensures))
+    (wide-size2 .ensures)) (pre .1 .1) (passes .ensures) (if1 .left))
+    (c .next-refused .ensures)
 
 pub next-from-spec : {M : Type 1} → statement M
 next-from-spec =

@@ -31,11 +31,19 @@ count-of-requires c κs = omega arith
 
 -- src/next.rt:121:9
 returns-2 : tie.Need-returns-2
-returns-2 c = may-test _ _ _ (c .before .before .before .before .if1 .left) (c .before .before .before .before .before .before .pre .0) (c .before .before .before .if2 .taken) (c .before .before .wide-size .ensures) (c .count-of .ensures)
+returns-2 c =
+    let wide-size = c .before .before .wide-size in
+    let if2 = c .before .before .before .if2 in
+    let if1 = c .before .before .before .before .if1 in
+    let pre = c .before .before .before .before .before .before .pre in
+    may-test _ _ _ (if1 .left) (pre .0) (if2 .taken) (wide-size .ensures) (c .count-of .ensures)
 
 -- src/next.rt:111:1
 returns-3 : tie.Need-returns-3
-returns-3 c = may-not _ _ _ (c .before .if1 .left) (c .before .before .before .pre .0) (c .if2 .left)
+returns-3 c =
+    let if1 = c .before .if1 in
+    let pre = c .before .before .before .pre in
+    may-not _ _ _ (if1 .left) (pre .0) (c .if2 .left)
 
 pub passes-spec : {M : Type 1} → statement M
 passes-spec =

@@ -19,7 +19,10 @@ shared-slice-read-key : tie.Need-shared-slice-read-key Inv-loop μ-loop
 shared-slice-read-key c = omega arith
 
 array-write-key : tie.Need-array-write-key Inv-loop μ-loop
-array-write-key c = omega (arith, c .before .before .before .pre, c .before .before .loop .inv .room)
+array-write-key c =
+    let loop = c .before .before .loop in
+    let pre = c .before .before .before .pre in
+    omega (arith, pre, loop .inv .room)
 
 add-i : tie.Need-add-i Inv-loop μ-loop
 add-i c = omega arith
@@ -28,10 +31,16 @@ loop-less : tie.Need-loop-less Inv-loop μ-loop
 loop-less c = omega arith
 
 loop-again : tie.Need-loop-again Inv-loop μ-loop
-loop-again c = filling-more (c .before .before .loop .inv) (c .before .before .before .pre) (omega arith)
+loop-again c =
+    let loop = c .before .before .loop in
+    let pre = c .before .before .before .pre in
+    filling-more (loop .inv) pre (omega arith)
 
 returns : tie.Need-returns Inv-loop μ-loop
-returns c = filling-end (c .before .loop .inv) (c .before .before .pre) (omega arith)
+returns c =
+    let loop = c .before .loop in
+    let pre = c .before .before .pre in
+    filling-end (loop .inv) pre (omega arith)
 
 pub filled-spec : {M : Type 1} → statement M
 filled-spec =

@@ -27,10 +27,21 @@ slice-aggregate-big8 : tie.Need-slice-aggregate-big8
 slice-aggregate-big8 c = search needs
 
 big8-requires : tie.Need-big8-requires
-big8-requires c κs = omega (arith, length-set (c .before .before .filled .result) (length (c .before .before .before .before .args .prefix .now) - 1) (getD (c .before .before .before .before .args .prefix .now) (length (c .before .before .before .before .args .prefix .now) - 1) 0 + 1), filled-long (c .before .before .before .before .args .prefix .now) (c .before .before .before .before .pre .1) (c .before .before .filled .ensures))
+big8-requires c κs =
+    let filled = c .before .before .filled in
+    let args = c .before .before .before .before .args in
+    let pre = c .before .before .before .before .pre in
+    omega (
+      arith,
+      length-set (filled .result) (length (args .prefix .now) - 1) (getD (args .prefix .now) (length (args .prefix .now) - 1) 0 + 1),
+      filled-long (args .prefix .now) (pre .1) (filled .ensures),
+    )
 
 returns : tie.Need-returns
-returns c = c .big8 .ensures ∙ high-set _ (c .before .before .before .before .before .pre .0) (c .before .before .before .before .before .pre .1) refl (c .before .before .before .filled .ensures)
+returns c =
+    let filled = c .before .before .before .filled in
+    let pre = c .before .before .before .before .before .pre in
+    c .big8 .ensures ∙ high-set _ (pre .0) (pre .1) refl (filled .ensures)
 
 pub high-key-spec : {M : Type 1} → statement M
 high-key-spec =

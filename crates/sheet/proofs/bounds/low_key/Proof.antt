@@ -19,7 +19,9 @@ big8-requires c κs = search needs
 
 returns : tie.Need-returns
 unfolding lowKey
-returns c = c .big8 .ensures ∙ ap (λ (s : List ℕ). be 8 s 0) (c .before .before .filled .ensures)
+returns c =
+    let filled = c .before .before .filled in
+    c .big8 .ensures ∙ ap (λ (s : List ℕ). be 8 s 0) (filled .ensures)
 
 pub low-key-spec : {M : Type 1} → statement M
 low-key-spec = tie.close (tie.spec filled-requires slice-aggregate-big8 big8-requires returns)

@@ -45,7 +45,18 @@ loop-less : tie.Need-loop-less Inv-loop μ-loop
 loop-less c = search needs
 
 loop-again : tie.Need-loop-again Inv-loop μ-loop
-loop-again c = record { within = search needs; stands = search needs; before = last-next _ _ (c .before .before .before .before .before .loop .inv .stands) (c .before .before .before .big8 .ensures); same = sym (run-live _ _ (c .before .before .before .before .before .loop .inv .stands) (c .before .before .before .before .loop-test .taken) (c .before .if1 .taken) (c .before .before .before .big8 .ensures) (c .before .before .before .before .before .loop .inv .before) (c .if2 .taken)) ∙ c .before .before .before .before .before .loop .inv .same }
+loop-again c =
+    let if1 = c .before .if1 in
+    let big8 = c .before .before .before .big8 in
+    let loop-test = c .before .before .before .before .loop-test in
+    let loop = c .before .before .before .before .before .loop in
+    record {
+      within = search needs;
+      stands = search needs;
+      before = last-next _ _ (loop .inv .stands) (big8 .ensures);
+      same = sym (run-live _ _ (loop .inv .stands) (loop-test .taken) (if1 .taken) (big8 .ensures) (loop .inv .before) (c .if2 .taken))
+          ∙ loop .inv .same;
+    }
 
 kind-right-requires : tie.Need-kind-right-requires Inv-loop μ-loop
 kind-right-requires c κs = search needs
@@ -63,16 +74,51 @@ loop-less-2 : tie.Need-loop-less-2 Inv-loop μ-loop
 loop-less-2 c = search needs
 
 loop-again-2 : tie.Need-loop-again-2 Inv-loop μ-loop
-loop-again-2 c = record { within = search needs; stands = search needs; before = last-next _ _ (c .before .before .before .before .before .before .before .before .loop .inv .stands) (c .before .before .before .before .before .before .big8 .ensures); same = sym (run-next _ _ (c .before .before .before .before .before .before .before .before .loop .inv .stands) (c .before .before .before .before .before .before .before .loop-test .taken) (c .before .before .before .kind-right .ensures) (c .before .before .if3 .taken) (c .before .before .before .before .before .before .big8 .ensures) (c .before .before .before .before .before .before .before .before .loop .inv .before) (c .before .key-right .ensures) (c .if4 .taken)) ∙ c .before .before .before .before .before .before .before .before .loop .inv .same }
+loop-again-2 c =
+    let key-right = c .before .key-right in
+    let back = c .before .before in
+    let if3 = back .if3 in
+    let kind-right = back .before .kind-right in
+    let back = back .before .before .before .before in
+    let big8 = back .big8 in
+    let loop-test = back .before .loop-test in
+    let loop = back .before .before .loop in
+    record {
+      within = search needs;
+      stands = search needs;
+      before = last-next _ _ (loop .inv .stands) (big8 .ensures);
+      same = sym
+          (run-next _ _ (loop .inv .stands) (loop-test .taken) (kind-right .ensures) (if3 .taken) (big8 .ensures) (loop .inv .before)
+          (key-right .ensures) (c .if4 .taken))
+          ∙ loop .inv .same;
+    }
 
 returns : tie.Need-returns Inv-loop μ-loop
-returns c = sym (run-key _ _ (c .before .before .before .before .before .before .before .before .loop .inv .stands) (c .before .before .before .before .before .before .before .loop-test .taken) (c .before .before .before .kind-right .ensures) (c .before .before .if3 .taken) (c .before .before .before .before .before .before .big8 .ensures) (c .before .before .before .before .before .before .before .before .loop .inv .before) (c .before .key-right .ensures) (c .if4 .left)) ∙ c .before .before .before .before .before .before .before .before .loop .inv .same
+returns c =
+    let key-right = c .before .key-right in
+    let back = c .before .before in
+    let if3 = back .if3 in
+    let kind-right = back .before .kind-right in
+    let back = back .before .before .before .before in
+    let big8 = back .big8 in
+    let loop-test = back .before .loop-test in
+    let loop = back .before .before .loop in
+    sym
+    (run-key _ _ (loop .inv .stands) (loop-test .taken) (kind-right .ensures) (if3 .taken) (big8 .ensures) (loop .inv .before) (key-right .ensures)
+    (c .if4 .left))
+    ∙ loop .inv .same
 
 returns-2 : tie.Need-returns-2 Inv-loop μ-loop
-returns-2 c = sym (run-kind _ _ (c .before .before .before .before .before .before .loop .inv .stands) (c .before .before .before .before .before .loop-test .taken) (c .before .kind-right .ensures) (c .if3 .left)) ∙ c .before .before .before .before .before .before .loop .inv .same
+returns-2 c =
+    let kind-right = c .before .kind-right in
+    let loop-test = c .before .before .before .before .before .loop-test in
+    let loop = c .before .before .before .before .before .before .loop in
+    sym (run-kind _ _ (loop .inv .stands) (loop-test .taken) (kind-right .ensures) (c .if3 .left)) ∙ loop .inv .same
 
 returns-3 : tie.Need-returns-3 Inv-loop μ-loop
-returns-3 c = sym (judge-end _ _ _ (c .loop-test .left)) ∙ c .before .loop .inv .same
+returns-3 c =
+    let loop = c .before .loop in
+    sym (judge-end _ _ _ (c .loop-test .left)) ∙ loop .inv .same
 
 pub check-run-spec : {M : Type 1} → statement M
 check-run-spec =

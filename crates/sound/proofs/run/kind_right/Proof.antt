@@ -20,10 +20,14 @@ no-value-requires : tie.Need-no-value-requires
 no-value-requires c κs = search needs
 
 returns-2 : tie.Need-returns-2
-returns-2 c = kind-gone _ _ (c .before .if2 .taken) (c .no-value .ensures)
+returns-2 c =
+    let if2 = c .before .if2 in
+    kind-gone _ _ (if2 .taken) (c .no-value .ensures)
 
 returns-3 : tie.Need-returns-3
-returns-3 c = kind-other _ _ (c .before .if1 .left) (c .if2 .left)
+returns-3 c =
+    let if1 = c .before .if1 in
+    kind-other _ _ (if1 .left) (c .if2 .left)
 
 pub kind-right-spec : {M : Type 1} → statement M
 kind-right-spec =

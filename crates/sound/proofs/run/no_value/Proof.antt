@@ -17,10 +17,15 @@ big8-requires-2 : tie.Need-big8-requires-2
 big8-requires-2 c κs = search needs
 
 returns : tie.Need-returns
-returns c = ap (λ (n : ℕ). eqb n 0) (c .big82 .ensures) ∙ no-value-low _ _ (sym (c .before .before .big8 .ensures) ∙ c .before .if1 .taken)
+returns c =
+    let if1 = c .before .if1 in
+    let big8 = c .before .before .big8 in
+    ap (λ (n : ℕ). eqb n 0) (c .big82 .ensures) ∙ no-value-low _ _ (sym (big8 .ensures) ∙ if1 .taken)
 
 returns-2 : tie.Need-returns-2
-returns-2 c = no-value-high _ _ (λ z. c .if1 .left (c .before .big8 .ensures ∙ z))
+returns-2 c =
+    let big8 = c .before .big8 in
+    no-value-high _ _ (λ z. c .if1 .left (big8 .ensures ∙ z))
 
 pub no-value-spec : {M : Type 1} → statement M
 no-value-spec = tie.close (tie.spec big8-requires add-big8 big8-requires-2 returns returns-2)

@@ -20,7 +20,10 @@ loop-holds : tie.Need-loop-holds Inv-loop μ-loop
 loop-holds c = search needs
 
 slice-write-tray-2 : tie.Need-slice-write-tray-2 Inv-loop μ-loop
-slice-write-tray-2 c = omega (arith, c .before .loop .inv, length-set (c .before .before .args .tray .now) 0 (c .before .before .args .runs))
+slice-write-tray-2 c =
+    let loop = c .before .loop in
+    let args = c .before .before .args in
+    omega (arith, loop .inv, length-set (args .tray .now) 0 (args .runs))
 
 add-at : tie.Need-add-at Inv-loop μ-loop
 add-at c = search needs
@@ -32,7 +35,9 @@ loop-again : tie.Need-loop-again Inv-loop μ-loop
 loop-again c = search needs
 
 same-length : tie.Need-same-length Inv-loop μ-loop
-same-length c = c .before .loop .inv ∙ simp length-set
+same-length c =
+    let loop = c .before .loop in
+    loop .inv ∙ simp length-set
 
 returns : tie.Need-returns Inv-loop μ-loop
 returns c = search needs

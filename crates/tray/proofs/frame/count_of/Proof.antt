@@ -22,7 +22,10 @@ big2-requires c κs = search needs
 
 returns : tie.Need-returns
 unfolding countOf
-returns c = c .big2 .ensures ∙ ap (λ (n : ℕ). be 2 (now (c .before .before .before .args .t)) (4 + 2 * n)) (c .before .wide-size .ensures)
+returns c =
+    let wide-size = c .before .wide-size in
+    let args = c .before .before .before .args in
+    c .big2 .ensures ∙ ap (λ (n : ℕ). be 2 (now (args .t)) (4 + 2 * n)) (wide-size .ensures)
 
 pub count-of-spec : {M : Type 1} → statement M
 count-of-spec = tie.close (tie.spec wide-size-requires mul-big2 add-big2 big2-requires returns)

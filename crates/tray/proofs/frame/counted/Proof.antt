@@ -31,7 +31,9 @@ array-write-starts : tie.Need-array-write-starts Inv-loop μ-loop
 array-write-starts c = search needs
 
 loop-holds : tie.Need-loop-holds Inv-loop μ-loop
-loop-holds c = (counted-none _ (replicate 64 0) (c .before .before .before .pre .most) (ap (λ (n : ℕ). 4 + 2 * n) (c .wide-size .ensures)) refl refl, refl)
+loop-holds c =
+    let header = c .before .before .before .pre in
+    (counted-none _ (replicate 64 0) (header .most) (ap (λ (n : ℕ). 4 + 2 * n) (c .wide-size .ensures)) refl refl, refl)
 
 count-of-requires : tie.Need-count-of-requires Inv-loop μ-loop
 count-of-requires c κs = search needs
@@ -40,7 +42,9 @@ no-frame-requires : tie.Need-no-frame-requires Inv-loop μ-loop
 no-frame-requires c κs = search needs
 
 returns : tie.Need-returns Inv-loop μ-loop
-returns c = counted-over _ (omega arith) (c .before .before .count-of .ensures) (omega arith) (c .no-frame .ensures)
+returns c =
+    let count-of = c .before .before .count-of in
+    counted-over _ (omega arith) (count-of .ensures) (omega arith) (c .no-frame .ensures)
 
 wide-size-requires-2 : tie.Need-wide-size-requires-2 Inv-loop μ-loop
 wide-size-requires-2 c κs = search needs
@@ -76,10 +80,21 @@ loop-less : tie.Need-loop-less Inv-loop μ-loop
 loop-less c = search needs
 
 loop-again : tie.Need-loop-again Inv-loop μ-loop
-loop-again c = (counted-more _ (c .before .before .before .before .before .loop .inv .0) (omega arith) (c .before .before .before .before .before .before .before .before .before .pre .most) (c .before .before .before .count-of .ensures) (c .before .before .if1 .left) (c .before .wide-size2 .ensures) (c .size16 .ensures), c .before .before .before .before .before .loop .inv .1)
+loop-again c =
+    let wide-size2 = c .before .wide-size2 in
+    let if1 = c .before .before .if1 in
+    let count-of = c .before .before .before .count-of in
+    let loop = c .before .before .before .before .before .loop in
+    let header = c .before .before .before .before .before .before .before .before .before .pre in (
+      counted-more _ (loop .inv .0) (omega arith) (header .most) (count-of .ensures) (if1 .left) (wide-size2 .ensures) (c .size16 .ensures),
+      loop .inv .1,
+    )
 
 returns-2 : tie.Need-returns-2 Inv-loop μ-loop
-returns-2 c = counted-all _ (c .before .before .before .before .before .pre .fits) (c .before .loop .inv .0) (c .before .loop .inv .1) (c .loop-test .left)
+returns-2 c =
+    let loop = c .before .loop in
+    let header = c .before .before .before .before .before .pre in
+    counted-all _ (header .fits) (loop .inv .0) (loop .inv .1) (c .loop-test .left)
 
 pub counted-spec : {M : Type 1} → statement M
 counted-spec =

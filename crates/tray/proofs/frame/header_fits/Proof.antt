@@ -15,10 +15,14 @@ wide-size-requires : tie.Need-wide-size-requires
 wide-size-requires c κs = search needs
 
 mul-if2 : tie.Need-mul-if2
-mul-if2 c = omega (arith, c .before .shared-slice-known2 .given 0)
+mul-if2 c =
+    let shared-slice-known2 = c .before .shared-slice-known2 in
+    omega (arith, shared-slice-known2 .given 0)
 
 add-if2 : tie.Need-add-if2
-add-if2 c = omega (arith, c .before .shared-slice-known2 .given 0)
+add-if2 c =
+    let shared-slice-known2 = c .before .shared-slice-known2 in
+    omega (arith, shared-slice-known2 .given 0)
 
 returns-2 : tie.Need-returns-2
 returns-2 c = header-short _ (omega arith)
@@ -27,25 +31,39 @@ returns-3 : tie.Need-returns-3
 returns-3 c = header-none _ (omega arith) (c .if3 .taken)
 
 returns-4 : tie.Need-returns-4
-returns-4 c = header-many _ (omega arith) (c .before .if3 .left) (c .if4 .taken)
+returns-4 c =
+    let if3 = c .before .if3 in
+    header-many _ (omega arith) (if3 .left) (c .if4 .taken)
 
 shared-slice-read-if5 : tie.Need-shared-slice-read-if5
 shared-slice-read-if5 c = search needs
 
 returns-5 : tie.Need-returns-5
-returns-5 c = header-1 _ (omega arith) (c .before .before .before .if3 .left) (c .before .before .if4 .left) (c .if5 .taken)
+returns-5 c =
+    let if4 = c .before .before .if4 in
+    let if3 = c .before .before .before .if3 in
+    header-1 _ (omega arith) (if3 .left) (if4 .left) (c .if5 .taken)
 
 shared-slice-read-if6 : tie.Need-shared-slice-read-if6
 shared-slice-read-if6 c = search needs
 
 returns-6 : tie.Need-returns-6
-returns-6 c = header-2 _ (omega arith) (c .before .before .before .before .before .if3 .left) (c .before .before .before .before .if4 .left) (c .before .before .if5 .left) (c .if6 .taken)
+returns-6 c =
+    let if5 = c .before .before .if5 in
+    let if4 = c .before .before .before .before .if4 in
+    let if3 = c .before .before .before .before .before .if3 in
+    header-2 _ (omega arith) (if3 .left) (if4 .left) (if5 .left) (c .if6 .taken)
 
 shared-slice-read-result : tie.Need-shared-slice-read-result
 shared-slice-read-result c = search needs
 
 returns-7 : tie.Need-returns-7
-returns-7 c = header-3 _ (omega arith) (c .before .before .before .before .before .before .if3 .left) (c .before .before .before .before .before .if4 .left) (c .before .before .before .if5 .left) (c .before .if6 .left)
+returns-7 c =
+    let if6 = c .before .if6 in
+    let if5 = c .before .before .before .if5 in
+    let if4 = c .before .before .before .before .before .if4 in
+    let if3 = c .before .before .before .before .before .before .if3 in
+    header-3 _ (omega arith) (if3 .left) (if4 .left) (if5 .left) (if6 .left)
 
 pub header-fits-spec : {M : Type 1} → statement M
 header-fits-spec =

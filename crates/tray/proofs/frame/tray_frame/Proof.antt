@@ -9,7 +9,9 @@ header-fits-requires : tie.Need-header-fits-requires
 header-fits-requires c κs = search needs
 
 counted-requires : tie.Need-counted-requires
-counted-requires c κs = header-is _ (sym (c .before .header-fits .ensures) ∙ c .if1 .taken)
+counted-requires c κs =
+    let header-fits = c .before .header-fits in
+    header-is _ (sym (header-fits .ensures) ∙ c .if1 .taken)
 
 returns : tie.Need-returns
 returns c = search needs
@@ -18,7 +20,10 @@ no-frame-requires : tie.Need-no-frame-requires
 no-frame-requires c κs = search needs
 
 returns-2 : tie.Need-returns-2
-returns-2 c = header-wrong _ (sym (c .before .before .header-fits .ensures) ∙ c .before .if1 .left) (c .no-frame .ensures)
+returns-2 c =
+    let if1 = c .before .if1 in
+    let header-fits = c .before .before .header-fits in
+    header-wrong _ (sym (header-fits .ensures) ∙ if1 .left) (c .no-frame .ensures)
 
 pub tray-frame-spec : {M : Type 1} → statement M
 tray-frame-spec =

@@ -18,7 +18,10 @@ big8-requires c κs = search needs
 
 returns : tie.Need-returns
 unfolding recordFrom
-returns c = c .big8 .ensures ∙ ap (λ (n : ℕ). recordFrom (now (c .before .before .before .args .run)) (25 * n) .key) (c .before .size16 .ensures)
+returns c =
+    let size16 = c .before .size16 in
+    let args = c .before .before .before .args in
+    c .big8 .ensures ∙ ap (λ (n : ℕ). recordFrom (now (args .run)) (25 * n) .key) (size16 .ensures)
 
 pub key-at-spec : {M : Type 1} → statement M
 key-at-spec = tie.close (tie.spec size16-requires mul-big8 big8-requires returns)

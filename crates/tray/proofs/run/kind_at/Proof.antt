@@ -21,7 +21,10 @@ shared-slice-read-result c = search needs
 
 returns : tie.Need-returns
 unfolding recordFrom
-returns c = ap (λ (n : ℕ). recordFrom (now (c .before .before .before .args .run)) (25 * n) .kind) (c .before .size16 .ensures)
+returns c =
+    let size16 = c .before .size16 in
+    let args = c .before .before .before .args in
+    ap (λ (n : ℕ). recordFrom (now (args .run)) (25 * n) .kind) (size16 .ensures)
 
 pub kind-at-spec : {M : Type 1} → statement M
 kind-at-spec =

@@ -37,7 +37,14 @@ put8-requires-2 : tie.Need-put8-requires-2
 put8-requires-2 c κs = search needs
 
 returns : tie.Need-returns
-returns c = value-is _ _ _ refl (omega (arith, c .before .before .before .before .before .before .before .before .size16 .ensures)) (c .before .before .before .before .before .before .big8 .ensures) (c .before .before .big82 .ensures) (omega arith) (c .before .before .before .before .before .put8 .ensures) (c .before .put82 .ensures)
+returns c =
+    let put82 = c .before .put82 in
+    let big82 = c .before .before .big82 in
+    let back = c .before .before .before .before .before in
+    let put8 = back .put8 in
+    let big8 = back .before .big8 in
+    let size16 = back .before .before .before .size16 in
+    value-is _ _ _ refl (omega (arith, size16 .ensures)) (big8 .ensures) (big82 .ensures) (omega arith) (put8 .ensures) (put82 .ensures)
 
 pub value-at-spec : {M : Type 1} → statement M
 value-at-spec =

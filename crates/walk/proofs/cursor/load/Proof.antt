@@ -17,7 +17,9 @@ wide-size-requires : tie.Need-wide-size-requires Inv-loop μ-loop
 wide-size-requires c κs = search needs
 
 loop-holds : tie.Need-loop-holds Inv-loop μ-loop
-loop-holds c = loading-none (c .wide-size .ensures) (c .before .before .pre .1)
+loop-holds c =
+    let pre = c .before .before .pre in
+    loading-none (c .wide-size .ensures) (pre .1)
 
 sub-r : tie.Need-sub-r Inv-loop μ-loop
 sub-r c = omega arith
@@ -26,28 +28,45 @@ add-big2 : tie.Need-add-big2 Inv-loop μ-loop
 add-big2 c = omega arith
 
 mul-big2 : tie.Need-mul-big2 Inv-loop μ-loop
-mul-big2 c = omega (arith, c .before .loop .inv .high)
+mul-big2 c =
+    let loop = c .before .loop in
+    omega (arith, loop .inv .high)
 
 add-big2-2 : tie.Need-add-big2-2 Inv-loop μ-loop
-add-big2-2 c = omega (arith, c .before .loop .inv .high)
+add-big2-2 c =
+    let loop = c .before .loop in
+    omega (arith, loop .inv .high)
 
 big2-requires : tie.Need-big2-requires Inv-loop μ-loop
-big2-requires c κs = omega (arith, c .before .loop .inv .high)
+big2-requires c κs =
+    let loop = c .before .loop in
+    omega (arith, loop .inv .high)
 
 mul-places : tie.Need-mul-places Inv-loop μ-loop
-mul-places c = omega (arith, c .before .before .loop .inv .high)
+mul-places c =
+    let loop = c .before .before .loop in
+    omega (arith, loop .inv .high)
 
 array-set-from-places : tie.Need-array-set-from-places Inv-loop μ-loop
-array-set-from-places c = omega (arith, c .before .before .loop .inv .high)
+array-set-from-places c =
+    let loop = c .before .before .loop in
+    omega (arith, loop .inv .high)
 
 loop-less : tie.Need-loop-less Inv-loop μ-loop
 loop-less c = omega arith
 
 loop-again : tie.Need-loop-again Inv-loop μ-loop
-loop-again c = loading-more (c .before .before .loop .inv) (c .before .loop-test .taken) refl (c .before .before .before .before .before .pre .1) (c .big2 .ensures)
+loop-again c =
+    let loop-test = c .before .loop-test in
+    let loop = c .before .before .loop in
+    let pre = c .before .before .before .before .before .pre in
+    loading-more (loop .inv) (loop-test .taken) refl (pre .1) (c .big2 .ensures)
 
 returns : tie.Need-returns Inv-loop μ-loop
-returns c = loading-end (c .before .loop .inv) (c .loop-test .left) (c .before .before .before .before .pre .1)
+returns c =
+    let loop = c .before .loop in
+    let pre = c .before .before .before .before .pre in
+    loading-end (loop .inv) (c .loop-test .left) (pre .1)
 
 pub load-spec : {M : Type 1} → statement M
 load-spec =

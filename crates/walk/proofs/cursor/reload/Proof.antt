@@ -28,7 +28,10 @@ mul-places : tie.Need-mul-places Inv-loop μ-loop Inv-loop2 μ-loop2
 mul-places c = search needs
 
 slice-write-places : tie.Need-slice-write-places Inv-loop μ-loop Inv-loop2 μ-loop2
-slice-write-places c = omega (arith, c .before .loop .inv .kept, c .before .before .before .before .pre .2)
+slice-write-places c =
+    let loop = c .before .loop in
+    let pre = c .before .before .before .before .pre in
+    omega (arith, loop .inv .kept, pre .2)
 
 add-i : tie.Need-add-i Inv-loop μ-loop Inv-loop2 μ-loop2
 add-i c = search needs
@@ -37,13 +40,20 @@ loop-less : tie.Need-loop-less Inv-loop μ-loop Inv-loop2 μ-loop2
 loop-less c = omega arith
 
 loop-again : tie.Need-loop-again Inv-loop μ-loop Inv-loop2 μ-loop2
-loop-again c = clearing-more (c .before .loop .inv) (omega (arith, c .loop-test .taken, c .before .before .before .before .pre .2))
+loop-again c =
+    let loop = c .before .loop in
+    let pre = c .before .before .before .before .pre in
+    clearing-more (loop .inv) (omega (arith, c .loop-test .taken, pre .2))
 
 wide-size-requires : tie.Need-wide-size-requires Inv-loop μ-loop Inv-loop2 μ-loop2
 wide-size-requires c κs = search needs
 
 loop2-holds : tie.Need-loop2-holds Inv-loop μ-loop Inv-loop2 μ-loop2
-loop2-holds c = clearing-all (c .before .before .loop .inv) (c .before .loop-test .left) (c .before .before .before .before .before .pre .2) (c .wide-size .ensures) (c .before .before .before .before .before .pre .1)
+loop2-holds c =
+    let loop-test = c .before .loop-test in
+    let loop = c .before .before .loop in
+    let pre = c .before .before .before .before .before .pre in
+    clearing-all (loop .inv) (loop-test .left) (pre .2) (c .wide-size .ensures) (pre .1)
 
 sub-r : tie.Need-sub-r Inv-loop μ-loop Inv-loop2 μ-loop2
 sub-r c = omega arith
@@ -52,31 +62,51 @@ add-big2 : tie.Need-add-big2 Inv-loop μ-loop Inv-loop2 μ-loop2
 add-big2 c = omega arith
 
 mul-big2 : tie.Need-mul-big2 Inv-loop μ-loop Inv-loop2 μ-loop2
-mul-big2 c = omega (arith, c .before .loop2 .inv .high)
+mul-big2 c =
+    let loop2 = c .before .loop2 in
+    omega (arith, loop2 .inv .high)
 
 add-big2-2 : tie.Need-add-big2-2 Inv-loop μ-loop Inv-loop2 μ-loop2
-add-big2-2 c = omega (arith, c .before .loop2 .inv .high)
+add-big2-2 c =
+    let loop2 = c .before .loop2 in
+    omega (arith, loop2 .inv .high)
 
 big2-requires : tie.Need-big2-requires Inv-loop μ-loop Inv-loop2 μ-loop2
-big2-requires c κs = omega (arith, c .before .loop2 .inv .high)
+big2-requires c κs =
+    let loop2 = c .before .loop2 in
+    omega (arith, loop2 .inv .high)
 
 mul-places-2 : tie.Need-mul-places-2 Inv-loop μ-loop Inv-loop2 μ-loop2
-mul-places-2 c = omega (arith, c .before .before .loop2 .inv .high)
+mul-places-2 c =
+    let loop2 = c .before .before .loop2 in
+    omega (arith, loop2 .inv .high)
 
 slice-write-places-2 : tie.Need-slice-write-places-2 Inv-loop μ-loop Inv-loop2 μ-loop2
-slice-write-places-2 c = omega (arith, c .before .before .loop2 .inv .high, places-room _ (c .before .before .loop2 .inv .room))
+slice-write-places-2 c =
+    let loop2 = c .before .before .loop2 in
+    omega (arith, loop2 .inv .high, places-room _ (loop2 .inv .room))
 
 loop2-less : tie.Need-loop2-less Inv-loop μ-loop Inv-loop2 μ-loop2
 loop2-less c = omega arith
 
 loop2-again : tie.Need-loop2-again Inv-loop μ-loop Inv-loop2 μ-loop2
-loop2-again c = reloading-more _ (c .before .before .loop2 .inv) (c .before .loop2-test .taken) refl (c .before .before .before .before .before .before .before .before .pre .1) (c .big2 .ensures)
+loop2-again c =
+    let loop2-test = c .before .loop2-test in
+    let loop2 = c .before .before .loop2 in
+    let pre = c .before .before .before .before .before .before .before .before .pre in
+    reloading-more _ (loop2 .inv) (loop2-test .taken) refl (pre .1) (c .big2 .ensures)
 
 same-length : tie.Need-same-length Inv-loop μ-loop Inv-loop2 μ-loop2
-same-length c = places-room _ (c .before .loop2 .inv .room) ∙ sym (c .before .before .before .before .before .before .before .pre .2)
+same-length c =
+    let loop2 = c .before .loop2 in
+    let pre = c .before .before .before .before .before .before .before .pre in
+    places-room _ (loop2 .inv .room) ∙ sym (pre .2)
 
 returns : tie.Need-returns Inv-loop μ-loop Inv-loop2 μ-loop2
-returns c = reloading-end _ (c .before .loop2 .inv) (c .loop2-test .left) (c .before .before .before .before .before .before .before .pre .1)
+returns c =
+    let loop2 = c .before .loop2 in
+    let pre = c .before .before .before .before .before .before .before .pre in
+    reloading-end _ (loop2 .inv) (c .loop2-test .left) (pre .1)
 
 pub reload-spec : {M : Type 1} → statement M
 reload-spec =

@@ -15,7 +15,11 @@ element-copy-out-p : tie.Need-element-copy-out-p
 element-copy-out-p c = search needs
 
 add-t11 : tie.Need-add-t11
-add-t11 c = omega (arith, same-place (c .before .before .before .args .t1 .places) (c .before .before .wide-size .ensures) (c .before .before .before .pre .2))
+add-t11 c =
+    let wide-size = c .before .before .wide-size in
+    let args = c .before .before .before .args in
+    let pre = c .before .before .before .pre in
+    omega (arith, same-place (args .t1 .places) (wide-size .ensures) (pre .2))
 
 mul-t7 : tie.Need-mul-t7
 mul-t7 c = search needs
@@ -27,7 +31,9 @@ add-self : tie.Need-add-self
 add-self c = search needs
 
 returns : tie.Need-returns
-returns c = moved-record _ (c .before .before .wide-size .ensures)
+returns c =
+    let wide-size = c .before .before .wide-size in
+    moved-record _ (wide-size .ensures)
 
 pub past-record-spec : {M : Type 1} → statement M
 past-record-spec =
