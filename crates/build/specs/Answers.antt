@@ -33,14 +33,14 @@ use Rattle.tray.specs.Meaning.Laws.{length-runsOf}
 use Rattle.tray.specs.Meaning.Back.{total-runsOf}
 use Rattle.index.specs.Layout.{segmentAt}
 use Rattle.index.specs.Layout.Code.{segmentAt-le}
-use Rattle.built.specs.declared.BuildAnswer.{BuildAnswer}
-use Rattle.built.specs.declared.BuildAnswer.the-variants.{Written, Refused}
-use Rattle.built.specs.Build.{cuts, segmentsBytes, indexBytes, indexSize, sizeFits, afterCheck, build, leaves}
-use Rattle.built.specs.Build.Bytes.{total-short}
-use Rattle.built.specs.Build.Theorems.{built-most}
-use Rattle.records.specs.Code.{Sounded}
-use Rattle.records.specs.Code.Writes.{put-before}
-use Rattle.segment.specs.Code.Loops.{sounded-fits}
+use Rattle.build_spec.specs.declared.BuildAnswer.{BuildAnswer}
+use Rattle.build_spec.specs.declared.BuildAnswer.the-variants.{Written, Refused}
+use Rattle.build_spec.specs.Build.{cuts, segmentsBytes, indexBytes, indexSize, sizeFits, afterCheck, build, leaves}
+use Rattle.build_spec.specs.Build.Bytes.{total-short}
+use Rattle.build_spec.specs.Build.Theorems.{built-most}
+use Rattle.build_marks.specs.Code.{Sounded}
+use Rattle.build_marks.specs.Code.Writes.{put-before}
+use Rattle.build.specs.Segment.Loops.{sounded-fits}
 
 -- the answer for a sound tray
 unfoldable pub roomAnswer : ℕ → List (List Record) → ℕ → BuildAnswer

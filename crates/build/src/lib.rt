@@ -1,26 +1,27 @@
 // The builder of indexes (document 01, "The index"): each key's versions go into the current segment if all fit and else open a new one.
+pub mod segment;
 pub mod segments;
 
 use crate::segments::count_segments;
 use crate::segments::write_segments;
-use built::BuildAnswer;
+use build_spec::BuildAnswer;
 use index::SegmentNo;
 use index::frame::segment_at;
 use number::put4;
 use number::wide64;
 use refusal::Refusal;
-use sound::check_tray;
 use tray::TrayAnswer;
 use tray::frame::TrayFrame;
 use tray::frame::tray_frame;
+use tray_check::check_tray;
 ghost use mathlib.Core.Path.{_≡_};
 ghost use mathlib.Core.List.{[], _∷_, _++_};
 ghost use Prim.Native.Nat.{_≤_};
 ghost use lib.ListN.{length};
 ghost use Rattle.number.specs.Big.{bytesOf, put};
 ghost use Rattle.tray.specs.Meaning.{runsOf};
-ghost use Rattle.built.specs.Build.{indexBytes, indexSize, build as buildOf, leaves};
-ghost use Rattle.records.specs.Code.{Sounded};
+ghost use Rattle.build_spec.specs.Build.{indexBytes, indexSize, build as buildOf, leaves};
+ghost use Rattle.build_marks.specs.Code.{Sounded};
 ghost use Rattle.build.specs.Answers.{roomAnswer};
 
 // The header: runs, segment size, two zeros, and the segment count.

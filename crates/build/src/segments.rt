@@ -1,8 +1,8 @@
 // All segments: counted, and written each into its own stretch of the output.
+use crate::segment::write_segment;
 use index::SegmentNo;
 use index::frame::segment_at;
 use number::wide_size;
-use segment::write_segment;
 use tray::frame::TrayFrame;
 ghost use mathlib.Core.Path.{_≡_};
 ghost use mathlib.Core.List.{[]};
@@ -10,8 +10,8 @@ ghost use Prim.Native.Nat.{_≤_};
 ghost use lib.ListN.{length};
 ghost use Rattle.number.specs.Big.{put};
 ghost use Rattle.tray.specs.Meaning.{runsOf};
-ghost use Rattle.built.specs.Build.{cuts, segmentsBytes, indexSize};
-ghost use Rattle.records.specs.Code.{Sounded};
+ghost use Rattle.build_spec.specs.Build.{cuts, segmentsBytes, indexSize};
+ghost use Rattle.build_marks.specs.Code.{Sounded};
 
 // How many segments there are. Each is written into the same stretch, and the output stays as it is.
 pub fn count_segments(t: &[u8], d: u8, f: TrayFrame, n: u64) -> u32

@@ -1,5 +1,5 @@
 // The program `drawer` on lines that are bad, and on what stands next to them: its input and output are here to compare.
-use answering::run;
+use drawer_io::run;
 
 fn main() {
     run();

@@ -30,12 +30,12 @@ use Rattle.tray.specs.Check.Theorems.{answers-records}
 use Rattle.tray.specs.Meaning.{runsOf}
 use Rattle.tray.specs.Meaning.Laws.{length-runsOf, runs-good}
 use Rattle.tray.specs.Meaning.Back.{fits-runs}
-use Rattle.folded.specs.declared.FoldAnswer.{FoldAnswer}
-use Rattle.folded.specs.declared.FoldAnswer.the-variants.{Written, Refused}
-use Rattle.folded.specs.Fold.{keyOf, foldedRun, foldedRuns, foldBytes, foldSize, boundsHold, afterCheck, foldAnswer, leaves}
-use Rattle.folded.specs.Fold.Laws.{keyRule, length-foldBytes, fold-copies}
-use Rattle.keeping.specs.Folding.{Folding, Noted, mergedRun}
-use Rattle.rewriting.specs.Code.{soundAnswer}
+use Rattle.fold_spec.specs.declared.FoldAnswer.{FoldAnswer}
+use Rattle.fold_spec.specs.declared.FoldAnswer.the-variants.{Written, Refused}
+use Rattle.fold_spec.specs.Fold.{keyOf, foldedRun, foldedRuns, foldBytes, foldSize, boundsHold, afterCheck, foldAnswer, leaves}
+use Rattle.fold_spec.specs.Fold.Laws.{keyRule, length-foldBytes, fold-copies}
+use Rattle.fold_merge.specs.Folding.{Folding, Noted, mergedRun}
+use Rattle.fold.specs.Write.{soundAnswer}
 
 module _ (a b : ℕ) (t : List (List Record)) (room : ℕ) where
   pub answer-long : {n : ℕ} → n ≡ length (foldedRun a b t) → 4096 < n → Refused (RunLength n) ≡ soundAnswer a b t room

@@ -1,22 +1,24 @@
 // Folding neighbouring runs into one (document 01, "Folding").
-use folded::FoldAnswer;
-use folding::merge_runs;
+pub mod write;
+
+use crate::write::copy;
+use crate::write::write_tray;
+use fold_merge::merge_runs;
+use fold_spec::FoldAnswer;
 use number::wide_size;
 use refusal::Refusal;
-use rewriting::copy;
-use rewriting::write_tray;
-use sound::check_tray;
 use tray::RunNo;
 use tray::TrayAnswer;
 use tray::frame::TrayFrame;
 use tray::frame::tray_frame;
+use tray_check::check_tray;
 ghost use mathlib.Core.Path.{_≡_};
 ghost use Prim.Native.Nat.{_≤_};
 ghost use lib.ListN.{length};
 ghost use Rattle.tray.specs.Meaning.{runsOf};
-ghost use Rattle.keeping.specs.Folding.{Folding};
-ghost use Rattle.folded.specs.Fold.{foldSize, foldedRun, foldAnswer, leaves};
-ghost use Rattle.rewriting.specs.Code.{soundAnswer};
+ghost use Rattle.fold_merge.specs.Folding.{Folding};
+ghost use Rattle.fold_spec.specs.Fold.{foldSize, foldedRun, foldAnswer, leaves};
+ghost use Rattle.fold.specs.Write.{soundAnswer};
 
 // How many bytes the tray has with its runs a to b made one of n records.
 fn folded_size(t: &[u8], f: TrayFrame, a: RunNo, b: RunNo, n: usize) -> usize

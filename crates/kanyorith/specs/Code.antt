@@ -18,12 +18,12 @@ use Rattle.tray.specs.Check.{checkTray}
 use Rattle.index.specs.declared.IndexAnswer.{IndexAnswer}
 use Rattle.index.specs.declared.IndexAnswer.the-variants.{Segments, Refused as IndexRefused}
 use Rattle.index.specs.Check.{checkIndex}
-use Rattle.built.specs.declared.BuildAnswer.{BuildAnswer}
-use Rattle.built.specs.declared.BuildAnswer.the-variants.{Written as BuildWritten, Refused as BuildRefused}
-use Rattle.built.specs.Build.{build, leaves}
-use Rattle.folded.specs.declared.FoldAnswer.{FoldAnswer}
-use Rattle.folded.specs.declared.FoldAnswer.the-variants.{Written as FoldWritten, Refused as FoldRefused}
-use Rattle.folded.specs.Fold.{foldAnswer, leaves as foldLeaves}
+use Rattle.build_spec.specs.declared.BuildAnswer.{BuildAnswer}
+use Rattle.build_spec.specs.declared.BuildAnswer.the-variants.{Written as BuildWritten, Refused as BuildRefused}
+use Rattle.build_spec.specs.Build.{build, leaves}
+use Rattle.fold_spec.specs.declared.FoldAnswer.{FoldAnswer}
+use Rattle.fold_spec.specs.declared.FoldAnswer.the-variants.{Written as FoldWritten, Refused as FoldRefused}
+use Rattle.fold_spec.specs.Fold.{foldAnswer, leaves as foldLeaves}
 use Rattle.walk.specs.declared.Gets.{Gets}
 use Rattle.walk.specs.declared.GetAnswer.{GetAnswer}
 use Rattle.walk.specs.declared.GetAnswer.the-variants.{Found as GetFound, Absent, Refused as GetRefused}
@@ -37,10 +37,10 @@ use Rattle.answers.specs.declared.PageAnswer.the-variants.{More, End as PageEnd
 use Rattle.answers.specs.declared.SheetAnswer.{SheetAnswer}
 use Rattle.answers.specs.declared.SheetAnswer.the-variants.{Listed, Refused as SheetRefused}
 use Rattle.answers.specs.Sheet.{sheetAnswer, sheetLeaves}
-use Rattle.verdicts.specs.Told.{trayTold, indexTold, buildTold, getTold, seekTold, pageTold, sheetTold, foldTold}
-use Rattle.verdicts.specs.Cursors.{cursorNumbers}
+use Rattle.theorems.specs.Told.{trayTold, indexTold, buildTold, getTold, seekTold, pageTold, sheetTold, foldTold}
+use Rattle.theorems.specs.Cursors.{cursorNumbers}
 use Rattle.kanyorith.specs.Promises.{CheckTray, CheckIndex, Build, valueLeft, Get, runLeft, placeLeft, cursorLeft, Sought, pageCursorLeft, Paging, Sheet, Fold}
-use Rattle.verdicts.specs.Wide.{narrowed, owned, build-owned, build-left, fold-owned, fold-left}
+use Rattle.theorems.specs.Wide.{narrowed, owned, build-owned, build-left, fold-owned, fold-left}
 
 pub tray-records : {t : List ℕ} {a : TrayAnswer} {n : ℕ} → a ≡ Records n → a ≡ checkTray t → CheckTray t 0 n
 unfolding trayTold

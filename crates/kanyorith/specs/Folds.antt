@@ -18,12 +18,12 @@ use Rattle.tray.specs.Frame.{runCount}
 use Rattle.tray.specs.Check.{checkTray, Sound}
 use Rattle.tray.specs.Check.Theorems.{answers-records}
 use Rattle.tray.specs.Meaning.{runsOf}
-use Rattle.folded.specs.Fold.{foldedRun, foldAnswer, leaves, Calls, no-call, call}
-use Rattle.folded.specs.Fold.Laws.{InBounds}
-use Rattle.unchanged.specs.Unchanged.{Folded}
-use Rattle.verdicts.specs.Told.Laws.{tray-zero, index-zero, fold-zero}
+use Rattle.fold_spec.specs.Fold.{foldedRun, foldAnswer, leaves, Calls, no-call, call}
+use Rattle.fold_spec.specs.Fold.Laws.{InBounds}
+use Rattle.theorems.specs.Unchanged.{Folded}
+use Rattle.theorems.specs.Told.Laws.{tray-zero, index-zero, fold-zero}
 use Rattle.kanyorith.specs.Promises.{CheckTray, Fold}
-use Rattle.verdicts.specs.Exactly.{FoldSays, fold-1, fold-8, fold-3, fold-2, fold-12, fold-7, fold-0, fold-exactly}
+use Rattle.theorems.specs.Exactly.{FoldSays, fold-1, fold-8, fold-3, fold-2, fold-12, fold-7, fold-0, fold-exactly}
 use Rattle.kanyorith.specs.Reads.{Accepted}
 
 -- a chain of calls of fold of which none is refused: each folds what the one before it wrote

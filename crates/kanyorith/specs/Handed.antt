@@ -25,9 +25,9 @@ use Rattle.answers.specs.declared.PageAnswer.{PageAnswer}
 use Rattle.answers.specs.declared.PageAnswer.the-variants.{Refused as PageRefused}
 use Rattle.answers.specs.Page.{pageAnswer}
 use Rattle.answers.specs.Page.Hands.{Hands as PageHands, page-hands}
-use Rattle.verdicts.specs.Told.{seekTold, pageTold}
-use Rattle.verdicts.specs.Told.Laws.{not-zero}
-use Rattle.verdicts.specs.Cursors.{spotIn, cursorIn}
+use Rattle.theorems.specs.Told.{seekTold, pageTold}
+use Rattle.theorems.specs.Told.Laws.{not-zero}
+use Rattle.theorems.specs.Cursors.{spotIn, cursorIn}
 use Rattle.kanyorith.specs.Promises.{Sought, Seek, Next, Page}
 use Rattle.kanyorith.specs.Reads.{page-moved, seek-moved}
 

@@ -29,9 +29,9 @@ use Rattle.walk.specs.Answers.{inFrames}
 use Rattle.answers.specs.declared.Pages.{Pages}
 use Rattle.answers.specs.Page.{refusedPage, pageTold as pageBy, pageLeft, pageFramed, leftFramed, pageAnswer, pageLeaves}
 use Rattle.answers.specs.Sheet.{recordsOf, sheetAnswer, sheetLeaves}
-use Rattle.verdicts.specs.Told.{pageTold, sheetTold}
-use Rattle.verdicts.specs.Told.Laws.{refused-above, sheet-zero}
-use Rattle.verdicts.specs.Exactly.Quick.{Lists, to-bound, to-end, SheetSays, sheet-1, sheet-4, sheet-8, sheet-9, sheet-10, sheet-7, sheet-0, sheet-exactly}
+use Rattle.theorems.specs.Told.{pageTold, sheetTold}
+use Rattle.theorems.specs.Told.Laws.{refused-above, sheet-zero}
+use Rattle.theorems.specs.Exactly.Quick.{Lists, to-bound, to-end, SheetSays, sheet-1, sheet-4, sheet-8, sheet-9, sheet-10, sheet-7, sheet-0, sheet-exactly}
 use Rattle.kanyorith.specs.Walks.{Ends, at-stay, at-end, at-loss, Kept, Filled, page-holds}
 
 module _ (t x : List ℕ) (c : Cursor) (out : List ℕ) where

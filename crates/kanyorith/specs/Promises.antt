@@ -7,8 +7,8 @@ use lib.ListN.{length}
 use Rattle.refusal.specs.Table.{told}
 use Rattle.tray.specs.Check.{checkTray}
 use Rattle.index.specs.Check.{checkIndex}
-use Rattle.built.specs.Build.{build, leaves}
-use Rattle.folded.specs.Fold.{foldAnswer, leaves as foldLeaves}
+use Rattle.build_spec.specs.Build.{build, leaves}
+use Rattle.fold_spec.specs.Fold.{foldAnswer, leaves as foldLeaves}
 use Rattle.walk.specs.declared.cursor.Cursor.{Cursor}
 use Rattle.walk.specs.declared.GetAnswer.{GetAnswer}
 use Rattle.walk.specs.declared.GetAnswer.the-variants.{Found as GetFound, Absent, Refused as GetRefused}
@@ -22,8 +22,8 @@ use Rattle.answers.specs.declared.PageAnswer.the-variants.{More, End as PageEnd
 use Rattle.answers.specs.declared.Pages.{Pages}
 use Rattle.answers.specs.Page.{pageAnswer, pageLeaves}
 use Rattle.answers.specs.Sheet.{sheetAnswer, sheetLeaves}
-use Rattle.verdicts.specs.Told.{trayTold, indexTold, buildTold, getTold, seekTold, pageTold, sheetTold, foldTold}
-use Rattle.verdicts.specs.Cursors.{cursorIn, cursorNumbers}
+use Rattle.theorems.specs.Told.{trayTold, indexTold, buildTold, getTold, seekTold, pageTold, sheetTold, foldTold}
+use Rattle.theorems.specs.Cursors.{cursorIn, cursorNumbers}
 
 -- check tray
 pub record CheckTray (tray : List ℕ) (number figure : ℕ) : Type 0 where

@@ -34,7 +34,7 @@ use Rattle.walk.specs.declared.Gets.{Gets}
 use Rattle.walk.specs.declared.cursor.Cursor.{Cursor}
 use Rattle.tray.specs.declared.Place.{Place}
 use Rattle.walk.specs.Code.{numbers, spotOf}
-use Rattle.verdicts.specs.Cursors.{spotIn, cursorIn, cursorNumbers}
+use Rattle.theorems.specs.Cursors.{spotIn, cursorIn, cursorNumbers}
 use Rattle.walk.specs.declared.Seeks.{Seeks}
 use Rattle.walk.specs.declared.SeekAnswer.{SeekAnswer}
 use Rattle.walk.specs.declared.SeekAnswer.the-variants.{Found, End, Refused}
@@ -59,11 +59,11 @@ use Rattle.answers.specs.declared.PageAnswer.the-variants.{More, End as PageEnd
 use Rattle.answers.specs.Page.{pageAnswer}
 use Rattle.answers.specs.declared.SheetAnswer.{SheetAnswer}
 use Rattle.answers.specs.Sheet.{prefixLong, prefixLast, listedIn, sheetAnswer, sheetLeaves}
-use Rattle.unchanged.specs.Paged.{PageCalls, last-page, page-then, calls-pages, pages-from}
-use Rattle.unchanged.specs.Read.{onward, get-answers, fits-frames, onward-are, prefixed, sheetOf, sheet-answers, sheet-records}
-use Rattle.verdicts.specs.Told.{getTold, seekTold, pageTold, sheetTold}
-use Rattle.verdicts.specs.Exactly.Quick.{NextSays, next-1, next-4, next-11, next-10, next-found, next-end as next-end-0, next-exactly, PageSays, page-1, page-4, page-11, page-10, page-more as page-more-1, page-end as page-end-0, page-exactly}
-use Rattle.verdicts.specs.Told.Laws.{not-zero, index-zero, page-more, page-end}
+use Rattle.theorems.specs.Paged.{PageCalls, last-page, page-then, calls-pages, pages-from}
+use Rattle.theorems.specs.Read.{onward, get-answers, fits-frames, onward-are, prefixed, sheetOf, sheet-answers, sheet-records}
+use Rattle.theorems.specs.Told.{getTold, seekTold, pageTold, sheetTold}
+use Rattle.theorems.specs.Exactly.Quick.{NextSays, next-1, next-4, next-11, next-10, next-found, next-end as next-end-0, next-exactly, PageSays, page-1, page-4, page-11, page-10, page-more as page-more-1, page-end as page-end-0, page-exactly}
+use Rattle.theorems.specs.Told.Laws.{not-zero, index-zero, page-more, page-end}
 use Rattle.kanyorith.specs.Promises.{CheckIndex, valueLeft, Get, runLeft, placeLeft, cursorLeft, Sought, Seek, Next, pageCursorLeft, Page, Sheet}
 
 -- check index accepts the index for the tray

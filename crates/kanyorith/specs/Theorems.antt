@@ -60,33 +60,33 @@ use Rattle.walk.specs.Reads.{belongs}
 use Rattle.walk.specs.Code.{spotOf}
 use Rattle.walk.specs.Reads.Page.{listing}
 use Rattle.walk.specs.Reads.Prefix.{sheet-begins}
-use Rattle.unchanged.specs.Read.{onward, prefixed}
-use Rattle.unchanged.specs.Unchanged.{get-unchanged, sheet-unchanged, sheet-leaves-unchanged}
+use Rattle.theorems.specs.Read.{onward, prefixed}
+use Rattle.theorems.specs.Unchanged.{get-unchanged, sheet-unchanged, sheet-leaves-unchanged}
 use Rattle.walk.specs.declared.SeekAnswer.{SeekAnswer}
 use Rattle.walk.specs.declared.GetAnswer.{GetAnswer}
 use Rattle.walk.specs.Answers.{getAnswer}
-use Rattle.built.specs.Build.{build, leaves, indexBytes}
-use Rattle.built.specs.Build.Theorems.{built-bound, built-count}
-use Rattle.built.specs.Build.Answers.{build-written, leaves-written, leaves-accepted}
+use Rattle.build_spec.specs.Build.{build, leaves, indexBytes}
+use Rattle.build_spec.specs.Build.Theorems.{built-bound, built-count}
+use Rattle.build_spec.specs.Build.Answers.{build-written, leaves-written, leaves-accepted}
 use Rattle.answers.specs.declared.PageAnswer.{PageAnswer}
 use Rattle.answers.specs.Page.{pageAnswer, pageLeaves}
 use Rattle.answers.specs.Sheet.{sheetAnswer, sheetLeaves}
-use Rattle.folded.specs.Fold.{foldSize, foldAnswer, leaves as foldLeaves}
-use Rattle.folded.specs.Fold.Chains.{wholeSize, wholeBytes, reaches-one as one-whole, calls-sound, calls-visible, calls-meet, length-never-stops, length-stops}
-use Rattle.folded.specs.Fold.Laws.{length-foldBytes}
-use Rattle.folded.specs.Fold.Answers.{fold-written}
-use Rattle.folded.specs.Fold.Nothing.{withoutRun, AddsNothing, empty-run, older-copy, same-bytes}
-use Rattle.folded.specs.Fold.Leaves.{leaves-written as fold-leaves-written}
+use Rattle.fold_spec.specs.Fold.{foldSize, foldAnswer, leaves as foldLeaves}
+use Rattle.fold_spec.specs.Fold.Chains.{wholeSize, wholeBytes, reaches-one as one-whole, calls-sound, calls-visible, calls-meet, length-never-stops, length-stops}
+use Rattle.fold_spec.specs.Fold.Laws.{length-foldBytes}
+use Rattle.fold_spec.specs.Fold.Answers.{fold-written}
+use Rattle.fold_spec.specs.Fold.Nothing.{withoutRun, AddsNothing, empty-run, older-copy, same-bytes}
+use Rattle.fold_spec.specs.Fold.Leaves.{leaves-written as fold-leaves-written}
 use Rattle.kanyorith.specs.Promises.{CheckTray, CheckIndex, Build, valueLeft, Get, runLeft, placeLeft, cursorLeft, Sought, Seek, Next, pageCursorLeft, Page, Sheet, Fold}
-use Rattle.verdicts.specs.Told.Laws.{index-zero, build-zero, build-above, get-above, seek-above, page-above, sheet-above, fold-zero, fold-above}
-use Rattle.verdicts.specs.Told.{indexTold, getTold, sheetTold, foldTold}
+use Rattle.theorems.specs.Told.Laws.{index-zero, build-zero, build-above, get-above, seek-above, page-above, sheet-above, fold-zero, fold-above}
+use Rattle.theorems.specs.Told.{indexTold, getTold, sheetTold, foldTold}
 use Rattle.kanyorith.specs.Reads.{Accepted, reading, Looked, get-looks, Sights, seek-sees, same-sights, Steps, steps-are, Paged, pages-are, Onward, pages-onward, next-never-lost, page-never-lost, Listed, sheet-lists}
 use Rattle.kanyorith.specs.Handed.{seek-belongs, next-belongs, page-belongs}
 use Rattle.kanyorith.specs.Folds.{Folds, folds-calls, sound-tray, Unchanged, unchanged, not-12, is-12, whole-bounds}
 use Rattle.kanyorith.specs.Left.{page-kept, refused-page, page-filled, listed-behind}
-use Rattle.verdicts.specs.Cursors.{cursorIn}
-use Rattle.verdicts.specs.Exactly.{TraySays, tray-exactly, IndexSays, index-0, index-exactly, BuildSays, build-exactly as build-table, FoldSays, fold-exactly as fold-table}
-use Rattle.verdicts.specs.Exactly.Quick.{GetSays, get-exactly as get-table, SeekSays, seek-exactly as seek-table, NextSays, next-exactly as next-table, PageSays, page-exactly as page-table, SheetSays, sheet-exactly as sheet-table}
+use Rattle.theorems.specs.Cursors.{cursorIn}
+use Rattle.theorems.specs.Exactly.{TraySays, tray-exactly, IndexSays, index-0, index-exactly, BuildSays, build-exactly as build-table, FoldSays, fold-exactly as fold-table}
+use Rattle.theorems.specs.Exactly.Quick.{GetSays, get-exactly as get-table, SeekSays, seek-exactly as seek-table, NextSays, next-exactly as next-table, PageSays, page-exactly as page-table, SheetSays, sheet-exactly as sheet-table}
 
 -- DEMAND 1: ONE ANSWER
 

@@ -1,27 +1,30 @@
 // The public face (document 01): one call for each of its calls, for C and Rust alike. Every call takes bytes of every sort and ends. It
 // answers the number of a refusal, or 0, and its figure beside it; what each call promises stands in `specs/Promises.antt`, and what follows
 // from the promises in `specs/Theorems.antt`. The declarations for C are in `include/kanyorith.h`.
+mod cursor;
+mod told;
+
+use crate::cursor::cursor_in;
+use crate::cursor::put_cursor;
+use crate::told::narrow;
+use crate::told::refuse;
+use crate::told::refuse_own;
 use answers::PageAnswer;
 use answers::SheetAnswer;
 use build::build;
-use built::BuildAnswer;
+use build_spec::BuildAnswer;
 use fold::fold;
-use folded::FoldAnswer;
-use get::get;
-use handing::cursor::cursor_in;
-use handing::cursor::put_cursor;
-use handing::told::narrow;
-use handing::told::refuse;
-use handing::told::refuse_own;
+use fold_spec::FoldAnswer;
 use index::IndexAnswer;
-use judging::check_index;
-use listing::page;
+use index_check::check_index;
 use next::calls::next;
+use page::page;
+use seek::get::get;
 use seek::seek;
 use sheet::sheet;
-use sound::check_tray;
 use tray::RunNo;
 use tray::TrayAnswer;
+use tray_check::check_tray;
 use walk::GetAnswer;
 use walk::SeekAnswer;
 use walk::Seeks;

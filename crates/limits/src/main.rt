@@ -1,16 +1,16 @@
 // Runs the boundary cases of document 01 through the public calls, a line a case.
-use telling::fill::put_records;
-use telling::fill::put_tray;
-use telling::tell::more;
-use telling::tell::tell_build;
-use telling::tell::tell_fold;
-use telling::tell::tell_get;
-use telling::tell::tell_index;
-use telling::tell::tell_next;
-use telling::tell::tell_page;
-use telling::tell::tell_seek;
-use telling::tell::tell_sheet;
-use telling::tell::tell_tray;
+use limits_tell::fill::put_records;
+use limits_tell::fill::put_tray;
+use limits_tell::tell::more;
+use limits_tell::tell::tell_build;
+use limits_tell::tell::tell_fold;
+use limits_tell::tell::tell_get;
+use limits_tell::tell::tell_index;
+use limits_tell::tell::tell_next;
+use limits_tell::tell::tell_page;
+use limits_tell::tell::tell_seek;
+use limits_tell::tell::tell_sheet;
+use limits_tell::tell::tell_tray;
 ghost use Prim.Native.Nat.{_<_, _≤_};
 ghost use lib.ListN.{length};
 

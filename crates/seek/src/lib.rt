@@ -1,10 +1,13 @@
 // The call seek: it tests the frames and every place that it follows, not the whole index.
+pub mod from;
+pub mod get;
+
+use crate::from::seek_from;
 use index::SegmentNo;
 use index::frame::IndexFrame;
 use index::frame::index_frame;
 use number::big8;
 use refusal::Refusal;
-use seeking::seek_from;
 use tray::Place;
 use tray::frame::TrayFrame;
 use tray::frame::tray_frame;

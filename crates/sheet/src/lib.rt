@@ -2,23 +2,24 @@
 // first key at or above the prefix with its last byte raised by one, filled with zeros. It tests the frames, the prefix and every place that it
 // follows, and writes only once it is sure.
 pub mod bounds;
+pub mod write;
 
 use crate::bounds::high_key;
 use crate::bounds::low_key;
+use crate::write::write_counted;
 use answers::SheetAnswer;
-use counting::count_from;
 use index::frame::IndexFrame;
 use index::frame::index_frame;
-use points::Stop;
+use index_check::selector::head_of;
+use list::points::Stop;
 use refusal::Refusal;
-use seeking::seek_from;
-use selecting::head_of;
+use seek::from::seek_from;
+use sheet_count::count_from;
 use tray::frame::TrayFrame;
 use tray::frame::tray_frame;
 use walk::begin::start_at;
 use walk::cursor::Cursor;
 use walk::cursor::Sight;
-use writing::write_counted;
 ghost use mathlib.Core.Path.{_≡_};
 ghost use mathlib.Core.List.{[]};
 ghost use Prim.Native.Nat.{_≤_, _<_};
@@ -29,7 +30,7 @@ ghost use Rattle.walk.specs.Walk.{walkFrom};
 ghost use Rattle.walk.specs.Reads.{seek, sheetVisit, sheetFrom};
 ghost use Rattle.walk.specs.Code.{Walking, spotOf};
 ghost use Rattle.answers.specs.Sheet.{sheetFramed, sheetAnswer, sheetLeaves};
-ghost use Rattle.writing.specs.Code.{nothingAt, Gives};
+ghost use Rattle.sheet.specs.Write.{nothingAt, Gives};
 
 // A seek that found nothing: an empty sheet at the end, refused where it is lost.
 fn found_nothing(sight: Sight) -> SheetAnswer

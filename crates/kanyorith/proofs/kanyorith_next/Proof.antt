@@ -2,7 +2,7 @@
 use mathlib.Core.Path.{subst, ap, _∙_}
 use Rattle.answers.specs.Next.{nextAnswer}
 use Rattle.kanyorith.specs.Code.Narrow.{sought-narrow}
-use Rattle.verdicts.specs.Cursors.{cursorIn}
+use Rattle.theorems.specs.Cursors.{cursorIn}
 use Rattle.kanyorith.specs.Promises.{Sought}
 use borrow.Author.Needs.{needs}
 use Rattle.kanyorith.proofs.kanyorith_next.Statement.{statement}

@@ -3,8 +3,8 @@ use mathlib.Core.Path.{subst, ap, _∙_}
 use Rattle.answers.specs.Page.{pageAnswer, pageLeaves}
 use Rattle.kanyorith.specs.Code.Narrow.{page-narrow}
 use Rattle.kanyorith.specs.Code.{page-more, page-end, page-refused}
-use Rattle.verdicts.specs.Cursors.Laws.{narrowCursor}
-use Rattle.verdicts.specs.Cursors.{cursorIn}
+use Rattle.theorems.specs.Cursors.Laws.{narrowCursor}
+use Rattle.theorems.specs.Cursors.{cursorIn}
 use Rattle.kanyorith.specs.Promises.{Paging}
 use borrow.Author.Needs.{needs}
 use Rattle.kanyorith.proofs.kanyorith_page.Statement.{statement}

@@ -25,8 +25,8 @@ use Rattle.walk.specs.Answers.{inFrames}
 use Rattle.answers.specs.Next.{refusedNext, nextFramed, nextAnswer}
 use Rattle.answers.specs.Page.{refusedPage, pageFramed, leftFramed, pageAnswer, pageLeaves}
 use Rattle.kanyorith.specs.Promises.{cursorLeft, Sought, pageCursorLeft, Paging}
-use Rattle.verdicts.specs.Wide.{narrowed-same, narrow-high}
-use Rattle.verdicts.specs.Cursors.Laws.{narrowCursor}
+use Rattle.theorems.specs.Wide.{narrowed-same, narrow-high}
+use Rattle.theorems.specs.Cursors.Laws.{narrowCursor}
 
 -- why a cursor at segment g that does not belong is refused
 unfoldable pub refusalAt : List ℕ → List ℕ → ℕ → Refusal

@@ -7,7 +7,7 @@ use Rattle.seek.proofs.seek_framed.Reads as reads
 use Rattle.seek.proofs.seek_framed.Lts as lts
 use Rattle.walk.proofs.begin.start_at.Reads as start-at-reads
 use Rattle.seek.proofs.told_seek.Reads as told-seek-reads
-use Rattle.seeking.proofs.seek_from.Reads as seek-from-reads
+use Rattle.seek.proofs.from.seek_from.Reads as seek-from-reads
 
 -- src/calls.rt:82:9
 start-at-requires : tie.Need-start-at-requires

@@ -1,5 +1,5 @@
 -- `sheet::found_nothing` meets its contract. Assumes nothing.
-use Rattle.writing.specs.Code.{nothingAt}
+use Rattle.sheet.specs.Write.{nothingAt}
 use mathlib.Core.Path.{ap, sym}
 use borrow.Author.Needs.{needs}
 use Rattle.sheet.proofs.found_nothing.Statement.{statement}

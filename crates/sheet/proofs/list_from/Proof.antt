@@ -1,5 +1,5 @@
 -- `sheet::list_from` meets its contract. Assumes nothing.
-use Rattle.writing.specs.Code.{gives-lost, gives-bound, gives-end}
+use Rattle.sheet.specs.Write.{gives-lost, gives-bound, gives-end}
 use native.Mathlib.Omega.{arith}
 use borrow.Author.Needs.{needs}
 use Rattle.sheet.proofs.list_from.Statement.{statement}

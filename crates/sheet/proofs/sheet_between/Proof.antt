@@ -1,6 +1,6 @@
 -- `sheet::sheet_between` meets its contract. Assumes nothing.
 use Rattle.walk.specs.Code.Inside.{seek-below}
-use Rattle.writing.specs.Code.{gives-none, gives-past, gives-found}
+use Rattle.sheet.specs.Write.{gives-none, gives-past, gives-found}
 use Rattle.walk.specs.Answers.Code.{walking}
 use Rattle.walk.specs.Code.Get.{found-there, not-found}
 use Rattle.walk.proofs.cursor.Sight.{the-type}

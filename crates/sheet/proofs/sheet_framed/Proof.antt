@@ -1,7 +1,7 @@
 -- `sheet::sheet_framed` meets its contract. Assumes nothing.
 use lib.ListN.{length}
 use Prim.Native.Nat.{_-_}
-use Rattle.writing.specs.Code.{framed-none, framed-long, framed-last, framed-gives}
+use Rattle.sheet.specs.Write.{framed-none, framed-long, framed-last, framed-gives}
 use Rattle.answers.specs.Sheet.{sheetLeaves}
 use denote.Ref.{now}
 use mathlib.Core.Path.{refl}

@@ -5,15 +5,15 @@ use mathlib.Core.Path.{_≡_, refl, sym}
 use lib.ListN.{length}
 use Rattle.number.proofs.Known.{bytes-known}
 use Rattle.index.specs.Scan.Code.{Reading}
-use Rattle.segment.specs.Code.Loops.{Merging, merging-none, merging-low, merging-end, merging-less, merging-more, sounded-ready, sounded-fits, sounded-reading, front-long, front-back}
-use Rattle.built.specs.Build.Bytes.{cuts-few}
+use Rattle.build.specs.Segment.Loops.{Merging, merging-none, merging-low, merging-end, merging-less, merging-more, sounded-ready, sounded-fits, sounded-reading, front-long, front-back}
+use Rattle.build_spec.specs.Build.Bytes.{cuts-few}
 use native.Mathlib.Omega.{arith}
 use borrow.Author.Needs.{needs}
 use Rattle.build.proofs.segments.count_segments.Statement.{statement}
 use Rattle.build.proofs.segments.count_segments.Tie as tie
 use Rattle.build.proofs.segments.count_segments.Reads as reads
 use Rattle.build.proofs.segments.count_segments.Lts as lts
-use Rattle.segment.proofs.write_segment.Reads as write-segment-reads
+use Rattle.build.proofs.segment.write_segment.Reads as write-segment-reads
 use Rattle.number.proofs.wide_size.Reads as wide-size-reads
 
 abbrev Inv-loop : tie.InvT-loop

@@ -2,16 +2,16 @@
 -- Measure: the records left. Assumes nothing.
 use mathlib.Core.Path.{refl, sym}
 use Rattle.number.proofs.Known.{bytes-known}
-use Rattle.built.specs.Build.Bytes.{cuts-few}
+use Rattle.build_spec.specs.Build.Bytes.{cuts-few}
 use Rattle.index.specs.Scan.Code.{Reading}
-use Rattle.segment.specs.Code.Loops.{Writing, merging-low, merging-end, merging-less, writing-none, writing-room, writing-end, writing-more, lent-long, lent-back, sounded-ready, sounded-fits, sounded-reading}
+use Rattle.build.specs.Segment.Loops.{Writing, merging-low, merging-end, merging-less, writing-none, writing-room, writing-end, writing-more, lent-long, lent-back, sounded-ready, sounded-fits, sounded-reading}
 use native.Mathlib.Omega.{arith}
 use borrow.Author.Needs.{needs}
 use Rattle.build.proofs.segments.write_segments.Statement.{statement}
 use Rattle.build.proofs.segments.write_segments.Tie as tie
 use Rattle.build.proofs.segments.write_segments.Reads as reads
 use Rattle.build.proofs.segments.write_segments.Lts as lts
-use Rattle.segment.proofs.write_segment.Reads as write-segment-reads
+use Rattle.build.proofs.segment.write_segment.Reads as write-segment-reads
 use Rattle.index.proofs.frame.segment_at.Reads as segment-at-reads
 
 abbrev Inv-loop : tie.InvT-loop

@@ -1,5 +1,5 @@
 -- `next::calls::next_framed` meets its contract. Assumes nothing.
-use Rattle.standing.specs.Tested.{told-spot, belongs-low}
+use Rattle.walk_cursor.specs.Tested.{told-spot, belongs-low}
 use Rattle.next.specs.Code.{told-is, next-ends, next-off}
 use Rattle.next.specs.Next.{going}
 use Rattle.walk.specs.Answers.Code.{walking}
@@ -11,8 +11,8 @@ use Rattle.next.proofs.calls.next_framed.Lts as lts
 use Rattle.next.proofs.next.next_ends.Reads as next-ends-reads
 use Rattle.next.proofs.next.next_from.Reads as next-from-reads
 use Rattle.next.proofs.next.next_refused.Reads as next-refused-reads
-use Rattle.standing.proofs.belongs.Reads as belongs-reads
-use Rattle.standing.proofs.place_numbers.Reads as place-numbers-reads
+use Rattle.walk_cursor.proofs.belongs.Reads as belongs-reads
+use Rattle.walk_cursor.proofs.place_numbers.Reads as place-numbers-reads
 
 -- src/calls.rt:27:18
 place-numbers-requires : tie.Need-place-numbers-requires

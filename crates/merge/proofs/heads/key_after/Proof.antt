@@ -1,0 +1,23 @@
+-- `merge::heads::key_after` meets its contract: past the end every key is the highest number. Assumes nothing.
+use Rattle.merge.specs.Heads.Leads.Laws.{after-past}
+use borrow.Author.Needs.{needs}
+use Rattle.merge.proofs.heads.key_after.Statement.{statement}
+use Rattle.merge.proofs.heads.key_after.Tie as tie
+use Rattle.merge.proofs.heads.key_after.Reads as reads
+use Rattle.merge.proofs.heads.key_after.Lts as lts
+use Rattle.merge.proofs.heads.head_key.Reads as head-key-reads
+
+add-t6 : tie.Need-add-t6
+add-t6 c = search needs
+
+head-key-requires : tie.Need-head-key-requires
+head-key-requires c κs = search needs
+
+returns : tie.Need-returns
+returns c = search needs
+
+returns-2 : tie.Need-returns-2
+returns-2 c = after-past _ (c .if1 .left)
+
+pub key-after-spec : {M : Type 1} → statement M
+key-after-spec = tie.close (tie.spec add-t6 head-key-requires returns returns-2)

@@ -1,0 +1,22 @@
+-- `merge::lead::choose` meets its contract. Assumes nothing.
+use Rattle.merge.specs.Heads.Leads.{keyed, left}
+use borrow.Author.Needs.{needs}
+use Rattle.merge.proofs.lead.choose.Statement.{statement}
+use Rattle.merge.proofs.lead.choose.Tie as tie
+use Rattle.merge.proofs.lead.choose.Reads as reads
+use Rattle.merge.proofs.lead.choose.Lts as lts
+use Rattle.merge.proofs.lead.first_left.Reads as first-left-reads
+
+returns : tie.Need-returns
+returns c = keyed (c .if1 .taken)
+
+first-left-requires : tie.Need-first-left-requires
+first-left-requires c κs = search needs
+
+returns-2 : tie.Need-returns-2
+returns-2 c =
+    let if1 = c .before .if1 in
+    left (if1 .left) (c .first-left .ensures)
+
+pub choose-spec : {M : Type 1} → statement M
+choose-spec = tie.close (tie.spec returns first-left-requires returns-2)

@@ -1,0 +1,22 @@
+-- `merge::lead::kept` meets its contract. Assumes nothing.
+use Rattle.merge.specs.Heads.Leads.Laws.{topped-one}
+use borrow.Author.Needs.{needs}
+use Rattle.merge.proofs.lead.kept.Statement.{statement}
+use Rattle.merge.proofs.lead.kept.Tie as tie
+use Rattle.merge.proofs.lead.kept.Reads as reads
+use Rattle.merge.proofs.lead.kept.Lts as lts
+
+mul-t4 : tie.Need-mul-t4
+mul-t4 c = search needs
+
+shared-slice-read-t6 : tie.Need-shared-slice-read-t6
+shared-slice-read-t6 c = search needs
+
+shared-slice-read-t8 : tie.Need-shared-slice-read-t8
+shared-slice-read-t8 c = search needs
+
+returns : tie.Need-returns
+returns c = topped-one _ _ _
+
+pub kept-spec : {M : Type 1} → statement M
+kept-spec = tie.close (tie.spec mul-t4 shared-slice-read-t6 shared-slice-read-t8 returns)

@@ -1,0 +1,17 @@
+-- `page::from::more` meets its contract. Assumes nothing.
+use mathlib.Core.Path.{refl}
+use Rattle.walk.specs.Code.{spotOf}
+use Rattle.list.specs.Page.{pagedOf, pagedAs}
+use native.Mathlib.Omega.{arith}
+use Rattle.page.proofs.from.more.Statement.{statement}
+use Rattle.page.proofs.from.more.Tie as tie
+
+cast-t7 : tie.Need-cast-t7
+cast-t7 c = omega arith
+
+returns : tie.Need-returns
+unfolding pagedOf pagedAs spotOf
+returns c = record { of = λ o. refl }
+
+pub more-spec : {M : Type 1} → statement M
+more-spec = tie.close (tie.spec cast-t7 returns)

@@ -1,3 +1,0 @@
--- A tray written anew with some of its runs made one.
--- what its functions promise each other
-pub mod Code

@@ -1,0 +1,12 @@
+-- `seek::from::at_end` meets its contract. Assumes nothing.
+use Rattle.walk.specs.Code.{soughtOf, soughtAs}
+use mathlib.Core.Path.{refl}
+use Rattle.seek.proofs.from.at_end.Statement.{statement}
+use Rattle.seek.proofs.from.at_end.Tie as tie
+
+returns : tie.Need-returns
+unfolding soughtOf soughtAs
+returns c = refl
+
+pub at-end-spec : {M : Type 1} → statement M
+at-end-spec = tie.close (tie.spec returns)

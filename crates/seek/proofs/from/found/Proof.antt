@@ -1,0 +1,27 @@
+-- `seek::from::found` meets its contract: an unmarked selector is its run. Assumes nothing.
+use Rattle.walk.specs.Code.Seek.{sightAt}
+use Rattle.walk.specs.Code.{soughtOf, soughtAs, spotOf}
+use mathlib.Core.Path.{ap}
+use native.Mathlib.Omega.{arith}
+use borrow.Author.Needs.{needs}
+use Rattle.seek.proofs.from.found.Statement.{statement}
+use Rattle.seek.proofs.from.found.Tie as tie
+
+wide-size-requires : tie.Need-wide-size-requires
+wide-size-requires c κs = search needs
+
+mul-t8 : tie.Need-mul-t8
+mul-t8 c = omega arith
+
+array-copy-out-t11 : tie.Need-array-copy-out-t11
+array-copy-out-t11 c = omega arith
+
+returns : tie.Need-returns
+unfolding soughtOf soughtAs spotOf sightAt
+returns c =
+    let wide-size = c .before .wide-size in
+    let args = c .before .before .args in
+    ap (sightAt (args .g) (args .s) (args .t3) (args .v)) (wide-size .ensures)
+
+pub found-spec : {M : Type 1} → statement M
+found-spec = tie.close (tie.spec wide-size-requires mul-t8 array-copy-out-t11 returns)

@@ -1,3 +1,0 @@
--- The segments of an index written.
--- how what was taken fills a segment, and the segments
-pub mod Code

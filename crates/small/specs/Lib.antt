@@ -1,7 +1,0 @@
--- Document 01's small trays: the table as data, and one statement over it.
--- the rows
-pub mod Rows
--- what the library's definitions give for a row's tray
-pub mod Calls
--- every row holds
-pub mod Table
