@@ -1,0 +1,192 @@
+//! The refusals of the library as typed errors.
+
+use std::error::Error;
+use std::fmt;
+
+use crate::raw::Answer;
+
+/// Why a call was refused. Each case has the number of the refusal table, a figure, and a sentence.
+///
+/// ```
+/// use kanyorith::{Refusal, check_tray};
+///
+/// let refusal = check_tray(b"no tray").unwrap_err();
+/// assert_eq!(refusal, Refusal::TrayFrame);
+/// assert_eq!((refusal.number(), refusal.figure()), (1, 0));
+/// assert_eq!(refusal.to_string(), "the tray breaks the header, count or length rules");
+/// ```
+#[derive(Clone, Copy, Debug, PartialEq, Eq, Hash)]
+pub enum Refusal {
+    /// 1: the tray breaks the header, count or length rules.
+    TrayFrame,
+    /// 2: a key is not above the one before it in its run.
+    KeyOrder {
+        /// The record, counted over the tray.
+        record: u64,
+    },
+    /// 3: a kind is above 1, or a gone record has a value.
+    RecordKind {
+        /// The record, counted over the tray.
+        record: u64,
+    },
+    /// 4: the index breaks the header or length rules, or is for another number of runs.
+    IndexFrame,
+    /// 5: the index is not accepted.
+    Segment {
+        /// The first wrong segment, or the number of segments where records are left over.
+        segment: u64,
+    },
+    /// 6: the segment size asked for is outside the number of runs to 128.
+    SegmentSize {
+        /// The size asked for.
+        d: u64,
+    },
+    /// 7: the output is too short.
+    Room {
+        /// The bytes needed.
+        needed: u64,
+    },
+    /// 8: the runs to fold, or the length of the prefix, are out of bounds.
+    Bounds {
+        /// The last run asked for, or the length of the prefix.
+        figure: u64,
+    },
+    /// 9: the last byte of the prefix is 255.
+    PrefixEnd {
+        /// The length of the prefix.
+        length: u64,
+    },
+    /// 10: the walk is lost, at a selector that names a run or a place that is not there.
+    Lost {
+        /// The segment.
+        segment: u64,
+        /// The selector in it.
+        selector: u64,
+    },
+    /// 11: the cursor does not belong to this index.
+    Cursor {
+        /// The cursor's segment.
+        segment: u64,
+    },
+    /// 12: the folded run would have more than 4,096 records.
+    RunLength {
+        /// How many it would have.
+        count: u64,
+    },
+}
+
+impl Refusal {
+    /// The number in the refusal table.
+    pub fn number(&self) -> u32 {
+        match self {
+            Refusal::TrayFrame => 1,
+            Refusal::KeyOrder { .. } => 2,
+            Refusal::RecordKind { .. } => 3,
+            Refusal::IndexFrame => 4,
+            Refusal::Segment { .. } => 5,
+            Refusal::SegmentSize { .. } => 6,
+            Refusal::Room { .. } => 7,
+            Refusal::Bounds { .. } => 8,
+            Refusal::PrefixEnd { .. } => 9,
+            Refusal::Lost { .. } => 10,
+            Refusal::Cursor { .. } => 11,
+            Refusal::RunLength { .. } => 12,
+        }
+    }
+
+    /// The figure that the refusal table gives with the number.
+    pub fn figure(&self) -> u64 {
+        match *self {
+            Refusal::TrayFrame | Refusal::IndexFrame => 0,
+            Refusal::KeyOrder { record } | Refusal::RecordKind { record } => record,
+            Refusal::Segment { segment } | Refusal::Cursor { segment } => segment,
+            Refusal::SegmentSize { d } => d,
+            Refusal::Room { needed } => needed,
+            Refusal::Bounds { figure } => figure,
+            Refusal::PrefixEnd { length } => length,
+            Refusal::Lost { segment, selector } => segment * 128 + selector,
+            Refusal::RunLength { count } => count,
+        }
+    }
+
+    /// The refusal of a number and a figure; none for a number that the table of the calls doesn't have.
+    pub fn from_parts(number: u32, figure: u64) -> Option<Self> {
+        Some(match number {
+            1 => Refusal::TrayFrame,
+            2 => Refusal::KeyOrder { record: figure },
+            3 => Refusal::RecordKind { record: figure },
+            4 => Refusal::IndexFrame,
+            5 => Refusal::Segment { segment: figure },
+            6 => Refusal::SegmentSize { d: figure },
+            7 => Refusal::Room { needed: figure },
+            8 => Refusal::Bounds { figure },
+            9 => Refusal::PrefixEnd { length: figure },
+            10 => Refusal::Lost { segment: figure / 128, selector: figure % 128 },
+            11 => Refusal::Cursor { segment: figure },
+            12 => Refusal::RunLength { count: figure },
+            _ => return None,
+        })
+    }
+}
+
+impl fmt::Display for Refusal {
+    fn fmt(&self, f: &mut fmt::Formatter<'_>) -> fmt::Result {
+        match self {
+            Refusal::TrayFrame => f.write_str("the tray breaks the header, count or length rules"),
+            Refusal::KeyOrder { record } => write!(f, "the key of record {record} is not above the one before it"),
+            Refusal::RecordKind { record } => {
+                write!(f, "the kind of record {record} is above 1, or it is gone and has a value")
+            }
+            Refusal::IndexFrame => {
+                f.write_str("the index breaks the header or length rules, or is for another number of runs")
+            }
+            Refusal::Segment { segment } => {
+                write!(f, "the index is not accepted: segment {segment} is wrong or missing")
+            }
+            Refusal::SegmentSize { d } => write!(f, "the segment size {d} is outside the number of runs to 128"),
+            Refusal::Room { needed } => write!(f, "the output is too short: {needed} bytes are needed"),
+            Refusal::Bounds { figure } => {
+                write!(f, "the runs to fold, or the length of the prefix, are out of bounds: {figure}")
+            }
+            Refusal::PrefixEnd { length } => write!(f, "the last byte of the prefix, of {length} bytes, is 255"),
+            Refusal::Lost { segment, selector } => {
+                write!(f, "the walk is lost: selector {selector} of segment {segment} names no record")
+            }
+            Refusal::Cursor { segment } => {
+                write!(f, "the cursor, in segment {segment}, does not belong to this index")
+            }
+            Refusal::RunLength { count } => write!(f, "the folded run would have {count} records, more than 4,096"),
+        }
+    }
+}
+
+impl Error for Refusal {}
+
+/// A refused page: it keeps the records that it wrote before its walk was lost.
+#[derive(Clone, Copy, Debug, PartialEq, Eq, Hash)]
+pub struct PageRefused {
+    /// How many records stand in the output; 0 for each refusal but [`Refusal::Lost`].
+    pub written: usize,
+    /// Why the page was refused.
+    pub refusal: Refusal,
+}
+
+impl fmt::Display for PageRefused {
+    fn fmt(&self, f: &mut fmt::Formatter<'_>) -> fmt::Result {
+        write!(f, "after {} records: {}", self.written, self.refusal)
+    }
+}
+
+impl Error for PageRefused {
+    fn source(&self) -> Option<&(dyn Error + 'static)> {
+        Some(&self.refusal)
+    }
+}
+
+/// A call's figure, or its refusal.
+pub(crate) fn figure(answer: Answer) -> Result<u64, Refusal> {
+    if answer.number == 0 {
+        return Ok(answer.figure);
+    }
+    Err(Refusal::from_parts(answer.number, answer.figure).expect("the library gives numbers of its table only"))
+}
