@@ -1,113 +1,82 @@
 //! Points in key order, a page at a time.
 
-use crate::{Cursor, KEY_SIZE, Key, LISTED_SIZE, Point, Refusal, listed, page, raw, refusal, seek};
+use std::fmt;
+use std::iter::FusedIterator;
+use std::ops::Bound;
+
+use crate::point::listed;
+use crate::{Cursor, KEY_SIZE, Key, LISTED_SIZE, Point, Reader, Refusal};
 
 /// How many records a page underneath holds: a sheet of common size comes in one.
 const PAGE: usize = 256;
 
-/// An iterator over points in key order, made by [`points`] or [`points_of`]. It reads a page ahead and holds no more.
+/// An iterator over points in key order, made by [`Reader::range`], [`Reader::prefix`] and [`Reader::iter`]. It holds one page of points,
+/// and no more.
 ///
-/// A lost walk is yielded once, after the points before it, and ends the iteration. Through an accepted index no walk is lost.
-#[derive(Clone, Debug)]
+/// A lost walk is an item, once, after the points before it, and ends the iteration. Through an accepted index no walk is lost.
+#[derive(Clone)]
 pub struct Points<'a> {
-    tray: &'a [u8],
-    index: &'a [u8],
-    cursor: Cursor,
+    reader: Reader<'a>,
+    /// The first key that is past the points; none where they go to the end.
     bound: Option<Key>,
     held: Vec<u8>,
     taken: usize,
-    after: After,
+    ahead: Ahead,
 }
 
 /// What follows the records of the page that is held.
-#[derive(Clone, Copy, Debug)]
-enum After {
-    More,
-    Lost(Refusal),
+#[derive(Clone, Copy)]
+enum Ahead {
+    Seek(Key),
+    Page(Cursor),
+    Refused(Refusal),
     End,
 }
 
-/// The visible points from the first at or above the key to the last.
-///
-/// ```
-/// # const SAMPLE_TRAY: &[u8] = include_bytes!(concat!(env!("CARGO_MANIFEST_DIR"), "/examples/sample.tray"));
-/// use kanyorith::{build_vec, points};
-///
-/// let index = build_vec(SAMPLE_TRAY, 4)?;
-/// let numbers: Vec<u16> = points(SAMPLE_TRAY, &index, &[0; 8])?
-///     .map(|point| point.map(|point| point.number()))
-///     .collect::<Result<_, _>>()?;
-/// assert_eq!(numbers, [1, 2]);
-/// # Ok::<(), kanyorith::Refusal>(())
-/// ```
-///
-/// # Errors
-/// Those of [`seek`].
-pub fn points<'a>(tray: &'a [u8], index: &'a [u8], from: &Key) -> Result<Points<'a>, Refusal> {
-    start(tray, index, from, None)
-}
+impl<'a> Points<'a> {
+    /// The points from one bound to another.
+    pub(crate) fn between(reader: Reader<'a>, from: Bound<&Key>, to: Bound<&Key>) -> Self {
+        let from = match from {
+            Bound::Included(key) => Some(*key),
+            Bound::Excluded(key) => after(key),
+            Bound::Unbounded => Some([0; KEY_SIZE]),
+        };
+        let bound = match to {
+            Bound::Included(key) => after(key),
+            Bound::Excluded(key) => Some(*key),
+            Bound::Unbounded => None,
+        };
+        let ahead = match from {
+            Some(from) if bound.is_none_or(|bound| from < bound) => Ahead::Seek(from),
+            _ => Ahead::End,
+        };
+        Points { reader, bound, held: Vec::new(), taken: 0, ahead }
+    }
 
-/// The visible points of a sheet, or of all sheets that share a prefix: what [`sheet`](crate::sheet) lists, without room for all of it.
-///
-/// ```
-/// # const SAMPLE_TRAY: &[u8] = include_bytes!(concat!(env!("CARGO_MANIFEST_DIR"), "/examples/sample.tray"));
-/// use kanyorith::{build_vec, points_of};
-///
-/// let index = build_vec(SAMPLE_TRAY, 4)?;
-/// let mut points = points_of(SAMPLE_TRAY, &index, &[0, 0, 0, 0, 0, 7])?;
-/// let first = points.next().expect("the sheet has points")?;
-/// assert_eq!((first.number(), first.column(), first.row()), (1, 800, 400));
-/// assert_eq!(points.count(), 1);
-/// # Ok::<(), kanyorith::Refusal>(())
-/// ```
-///
-/// # Errors
-/// Those of [`sheet`](crate::sheet) but [`Refusal::Room`]; a walk that is lost after the first point is an item of the iterator.
-pub fn points_of<'a>(tray: &'a [u8], index: &'a [u8], prefix: &[u8]) -> Result<Points<'a>, Refusal> {
-    let Some((from, bound)) = bounds(prefix) else {
-        // The library says which of its refusals it is.
-        refusal::figure(raw::sheet(tray, index, prefix, &mut []))?;
-        unreachable!("sheet refuses every prefix without bounds");
-    };
-    start(tray, index, &from, Some(bound))
-}
+    /// The points with a prefix, or the library's refusal of it.
+    pub(crate) fn with_prefix(reader: Reader<'a>, prefix: &[u8]) -> Result<Self, Refusal> {
+        let Some((from, to)) = bounds(prefix) else {
+            reader.sheet(prefix, &mut [])?;
+            unreachable!("sheet refuses every prefix without bounds");
+        };
+        Ok(Points::between(reader, Bound::Included(&from), Bound::Excluded(&to)))
+    }
 
-/// The first key with the prefix, and the first key past those.
-fn bounds(prefix: &[u8]) -> Option<(Key, Key)> {
-    let last = prefix.len().checked_sub(1)?;
-    let mut from = [0; KEY_SIZE];
-    from.get_mut(..=last)?.copy_from_slice(prefix);
-    let mut bound = from;
-    bound[last] = bound[last].checked_add(1)?;
-    Some((from, bound))
-}
-
-fn start<'a>(tray: &'a [u8], index: &'a [u8], from: &Key, bound: Option<Key>) -> Result<Points<'a>, Refusal> {
-    let cursor = seek(tray, index, from)?.cursor;
-    Ok(Points { tray, index, cursor, bound, held: Vec::new(), taken: 0, after: After::More })
-}
-
-impl Points<'_> {
-    /// Reads the page at the cursor.
-    fn turn(&mut self) {
+    /// Reads the page at the cursor, and says what follows it.
+    fn turn(&mut self, mut cursor: Cursor) -> Ahead {
         self.held.resize(PAGE * LISTED_SIZE, 0);
         self.taken = 0;
-        let written = match page(self.tray, self.index, &mut self.cursor, &mut self.held) {
-            Ok(page) => {
-                self.after = if page.more { After::More } else { After::End };
-                page.written
-            }
-            Err(refused) => {
-                self.after = After::Lost(refused.refusal);
-                refused.written
-            }
+        let (written, ahead) = match self.reader.page(&mut cursor, &mut self.held) {
+            Ok(page) => (page.written, if page.more { Ahead::Page(cursor) } else { Ahead::End }),
+            Err(refused) => (refused.written, Ahead::Refused(refused.refusal)),
         };
         self.held.truncate(written * LISTED_SIZE);
+        ahead
     }
 
     /// The next point of the page that is held.
     fn take(&mut self) -> Option<Point> {
-        let record = self.held[self.taken..].first_chunk::<LISTED_SIZE>()?;
+        let record = self.held[self.taken..].first_chunk()?;
         self.taken += LISTED_SIZE;
         Some(listed(record))
     }
@@ -115,8 +84,23 @@ impl Points<'_> {
     fn finish(&mut self) {
         self.held.clear();
         self.taken = 0;
-        self.after = After::End;
+        self.ahead = Ahead::End;
     }
+}
+
+/// The key after a key; none after the last.
+fn after(key: &Key) -> Option<Key> {
+    u64::from_be_bytes(*key).checked_add(1).map(u64::to_be_bytes)
+}
+
+/// The first key with the prefix, and the first key past those.
+fn bounds(prefix: &[u8]) -> Option<(Key, Key)> {
+    let last = prefix.len().checked_sub(1)?;
+    let mut from = [0; KEY_SIZE];
+    from.get_mut(..=last)?.copy_from_slice(prefix);
+    let mut to = from;
+    to[last] = to[last].checked_add(1)?;
+    Some((from, to))
 }
 
 impl Iterator for Points<'_> {
@@ -131,16 +115,27 @@ impl Iterator for Points<'_> {
                 }
                 return Some(Ok(point));
             }
-            match self.after {
-                After::More => self.turn(),
-                After::Lost(refusal) => {
+            self.ahead = match self.ahead {
+                Ahead::Seek(key) => match self.reader.seek(&key) {
+                    Ok(stop) => Ahead::Page(stop.cursor),
+                    Err(refusal) => Ahead::Refused(refusal),
+                },
+                Ahead::Page(cursor) => self.turn(cursor),
+                Ahead::Refused(refusal) => {
                     self.finish();
                     return Some(Err(refusal));
                 }
-                After::End => return None,
+                Ahead::End => return None,
             }
         }
     }
 }
 
-impl std::iter::FusedIterator for Points<'_> {}
+impl FusedIterator for Points<'_> {}
+
+/// What is read, and not the points that are held.
+impl fmt::Debug for Points<'_> {
+    fn fmt(&self, f: &mut fmt::Formatter<'_>) -> fmt::Result {
+        f.debug_struct("Points").field("reader", &self.reader).finish_non_exhaustive()
+    }
+}

@@ -5,7 +5,7 @@ use std::fmt;
 
 use crate::raw::Answer;
 
-/// Why a call was refused. Each case has the number of the refusal table, a figure, and a sentence.
+/// Why a call was refused. Each case has its number and figure in the refusal table of `include/kanyorith.h`, and a sentence.
 ///
 /// ```
 /// use kanyorith::{Refusal, check_tray};
@@ -15,7 +15,10 @@ use crate::raw::Answer;
 /// assert_eq!((refusal.number(), refusal.figure()), (1, 0));
 /// assert_eq!(refusal.to_string(), "the tray breaks the header, count or length rules");
 /// ```
+///
+/// Later versions may have more cases, so a `match` needs a last arm for all others.
 #[derive(Clone, Copy, Debug, PartialEq, Eq, Hash)]
+#[non_exhaustive]
 pub enum Refusal {
     /// 1: the tray breaks the header, count or length rules.
     TrayFrame,
@@ -46,10 +49,15 @@ pub enum Refusal {
         /// The bytes needed.
         needed: u64,
     },
-    /// 8: the runs to fold, or the length of the prefix, are out of bounds.
-    Bounds {
-        /// The last run asked for, or the length of the prefix.
-        figure: u64,
+    /// 8, from a fold: the first run to fold is above the last, or the tray has no such run.
+    FoldBounds {
+        /// The last run asked for.
+        last: u64,
+    },
+    /// 8, from a listing: a prefix has 1 to 8 bytes, and this one has none or more.
+    PrefixLength {
+        /// The length of the prefix.
+        length: u64,
     },
     /// 9: the last byte of the prefix is 255.
     PrefixEnd {
@@ -86,7 +94,7 @@ impl Refusal {
             Refusal::Segment { .. } => 5,
             Refusal::SegmentSize { .. } => 6,
             Refusal::Room { .. } => 7,
-            Refusal::Bounds { .. } => 8,
+            Refusal::FoldBounds { .. } | Refusal::PrefixLength { .. } => 8,
             Refusal::PrefixEnd { .. } => 9,
             Refusal::Lost { .. } => 10,
             Refusal::Cursor { .. } => 11,
@@ -102,30 +110,11 @@ impl Refusal {
             Refusal::Segment { segment } | Refusal::Cursor { segment } => segment,
             Refusal::SegmentSize { d } => d,
             Refusal::Room { needed } => needed,
-            Refusal::Bounds { figure } => figure,
-            Refusal::PrefixEnd { length } => length,
+            Refusal::FoldBounds { last } => last,
+            Refusal::PrefixLength { length } | Refusal::PrefixEnd { length } => length,
             Refusal::Lost { segment, selector } => segment * 128 + selector,
             Refusal::RunLength { count } => count,
         }
-    }
-
-    /// The refusal of a number and a figure; none for a number that the table of the calls doesn't have.
-    pub fn from_parts(number: u32, figure: u64) -> Option<Self> {
-        Some(match number {
-            1 => Refusal::TrayFrame,
-            2 => Refusal::KeyOrder { record: figure },
-            3 => Refusal::RecordKind { record: figure },
-            4 => Refusal::IndexFrame,
-            5 => Refusal::Segment { segment: figure },
-            6 => Refusal::SegmentSize { d: figure },
-            7 => Refusal::Room { needed: figure },
-            8 => Refusal::Bounds { figure },
-            9 => Refusal::PrefixEnd { length: figure },
-            10 => Refusal::Lost { segment: figure / 128, selector: figure % 128 },
-            11 => Refusal::Cursor { segment: figure },
-            12 => Refusal::RunLength { count: figure },
-            _ => return None,
-        })
     }
 }
 
@@ -145,8 +134,11 @@ impl fmt::Display for Refusal {
             }
             Refusal::SegmentSize { d } => write!(f, "the segment size {d} is outside the number of runs to 128"),
             Refusal::Room { needed } => write!(f, "the output is too short: {needed} bytes are needed"),
-            Refusal::Bounds { figure } => {
-                write!(f, "the runs to fold, or the length of the prefix, are out of bounds: {figure}")
+            Refusal::FoldBounds { last } => {
+                write!(f, "the runs to fold are out of bounds: the last is {last}")
+            }
+            Refusal::PrefixLength { length } => {
+                write!(f, "the prefix has {length} bytes, and must have 1 to 8")
             }
             Refusal::PrefixEnd { length } => write!(f, "the last byte of the prefix, of {length} bytes, is 255"),
             Refusal::Lost { segment, selector } => {
@@ -163,6 +155,8 @@ impl fmt::Display for Refusal {
 impl Error for Refusal {}
 
 /// A refused page: it keeps the records that it wrote before its walk was lost.
+///
+/// Where these are of no use, `?` turns it into its [`Refusal`].
 #[derive(Clone, Copy, Debug, PartialEq, Eq, Hash)]
 pub struct PageRefused {
     /// How many records stand in the output; 0 for each refusal but [`Refusal::Lost`].
@@ -183,10 +177,41 @@ impl Error for PageRefused {
     }
 }
 
-/// A call's figure, or its refusal.
-pub(crate) fn figure(answer: Answer) -> Result<u64, Refusal> {
-    if answer.number == 0 {
-        return Ok(answer.figure);
+impl From<PageRefused> for Refusal {
+    fn from(refused: PageRefused) -> Self {
+        refused.refusal
     }
-    Err(Refusal::from_parts(answer.number, answer.figure).expect("the library gives numbers of its table only"))
+}
+
+/// What number 8 means to the call that gave it: the one number of the table with two meanings.
+#[derive(Clone, Copy)]
+pub(crate) enum Bounds {
+    /// The runs of a fold.
+    Runs,
+    /// The length of a prefix.
+    Prefix,
+    /// The call has no bounds to refuse.
+    None,
+}
+
+/// A call's figure, or its refusal.
+pub(crate) fn figure(answer: Answer, bounds: Bounds) -> Result<u64, Refusal> {
+    let Answer { number, figure } = answer;
+    Err(match (number, bounds) {
+        (0, _) => return Ok(figure),
+        (1, _) => Refusal::TrayFrame,
+        (2, _) => Refusal::KeyOrder { record: figure },
+        (3, _) => Refusal::RecordKind { record: figure },
+        (4, _) => Refusal::IndexFrame,
+        (5, _) => Refusal::Segment { segment: figure },
+        (6, _) => Refusal::SegmentSize { d: figure },
+        (7, _) => Refusal::Room { needed: figure },
+        (8, Bounds::Runs) => Refusal::FoldBounds { last: figure },
+        (8, Bounds::Prefix) => Refusal::PrefixLength { length: figure },
+        (9, _) => Refusal::PrefixEnd { length: figure },
+        (10, _) => Refusal::Lost { segment: figure / 128, selector: figure % 128 },
+        (11, _) => Refusal::Cursor { segment: figure },
+        (12, _) => Refusal::RunLength { count: figure },
+        _ => unreachable!("the library gives numbers of its table only, and not {number}"),
+    })
 }
