@@ -1,4 +1,4 @@
-/* Every call from C, on a sound tray and on bad input, through the header alone. Prints 'N passed, M failed'; fails by its status too. */
+/* Every call from C, on a sound tray and on bad input, through the header alone. Prints 'N passed, M failed', and its status says the same. */
 #include "kanyorith.h"
 
 #include <stdio.h>
@@ -32,7 +32,7 @@ static const uint8_t sample_index[24] = {
     0x3f,                         /* a placeholder */
 };
 
-/* Both in blocks of just their length, so that a memory checker sees every byte read past them. */
+/* Both in blocks of exactly their length, so that a memory checker sees every byte read past them. */
 static uint8_t *tray, *tray_index;
 #define TRAY tray, sizeof sample_tray
 #define INDEX tray_index, sizeof sample_index
@@ -44,9 +44,9 @@ static uint8_t *block(const uint8_t *bytes, size_t length) {
     return copy;
 }
 
-static const uint8_t point_1[8] = {0, 0, 0, 0, 0, 7, 0, 1};
-static const uint8_t point_2[8] = {0, 0, 0, 0, 0, 7, 0, 2};
-static const uint8_t point_3[8] = {0, 0, 0, 0, 0, 7, 0, 3};
+static const uint8_t point_1[KANYORITH_KEY_SIZE] = {0, 0, 0, 0, 0, 7, 0, 1};
+static const uint8_t point_2[KANYORITH_KEY_SIZE] = {0, 0, 0, 0, 0, 7, 0, 2};
+static const uint8_t point_3[KANYORITH_KEY_SIZE] = {0, 0, 0, 0, 0, 7, 0, 3};
 
 /* The value of a point as it stands in the tray. */
 static const uint8_t *value_of(int record) { return tray + 8 + 25 * record + 9; }
@@ -222,6 +222,12 @@ static void texts(void) {
     check(strcmp(kanyorith_refusal_text(13), "no such refusal") == 0, "no text for 13");
 }
 
+static void version(void) {
+    char text[64];
+    snprintf(text, sizeof text, "%d.%d.%d", KANYORITH_VERSION_MAJOR, KANYORITH_VERSION_MINOR, KANYORITH_VERSION_PATCH);
+    check(strcmp(text, KANYORITH_VERSION) == 0, "the version as numbers and as a string");
+}
+
 int main(void) {
     tray = block(sample_tray, sizeof sample_tray);
     tray_index = block(sample_index, sizeof sample_index);
@@ -235,6 +241,7 @@ int main(void) {
     fold();
     fold_too_long();
     texts();
+    version();
     free(tray);
     free(tray_index);
     printf("%d passed, %d failed\n", passed, failed);
