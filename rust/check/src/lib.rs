@@ -25,3 +25,8 @@ impl Answer {
         Answer { number, figure }
     }
 }
+
+/// The program of `README.md`, compiled with the documentation's tests.
+#[cfg(doctest)]
+#[doc = include_str!("../../README.md")]
+struct Readme;
