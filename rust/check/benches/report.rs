@@ -76,8 +76,7 @@ pub fn table(rows: &[Row]) -> String {
 
 /// Each call in a line: the library's times at 1, 8 and 63 runs, and between which bounds the hand-written rules lie.
 fn summary(rows: &[Row]) -> String {
-    let mut text =
-        String::from("| Call | ns a | H 1 | H 8 | H 63 | hand, times the library's |\n|---|---|---|---|---|---|\n");
+    let mut text = String::from("| Call | ns a | H 1 | H 8 | H 63 | hand / library |\n|---|---|---|---|---|---|\n");
     let mut calls: Vec<&Row> = Vec::new();
     for row in rows {
         if calls.iter().all(|seen| seen.call != row.call) {
@@ -100,15 +99,15 @@ fn bounds(rows: &[Row], h: usize, call: &str, of: impl Fn(&Row) -> Option<f64>) 
     full.fold((f64::MAX, 0f64), |(least, most), value| (least.min(value), most.max(value)))
 }
 
-/// What was aimed at on trays of full runs, and what came of it: an aim is met where the worst of its rows meets it.
-fn aims(rows: &[Row]) -> String {
+/// The targets on trays of full runs, and what was measured: a target is met where the worst of its rows meets it.
+fn targets(rows: &[Row]) -> String {
     let library = |row: &Row| row.time("library");
     let rate = |row: &Row| Some(1000.0 / row.time("library")?);
     let heaps = |row: &Row| Some(row.time("heap")? / row.time("library")?);
-    let mut text = String::from("| Aim | Reached | |\n|---|---|---|\n");
-    let mut line = |aim: &str, (least, most): (f64, f64), unit: &str, met: bool| {
-        let word = if met { "met" } else { "missed" };
-        writeln!(text, "| {aim} | {least:.1} to {most:.1} {unit} | {word} |").expect("a string");
+    let word = |met: bool| if met { "met" } else { "missed" };
+    let mut text = String::from("| Target | Measured | |\n|---|---|---|\n");
+    let mut line = |target: &str, (least, most): (f64, f64), unit: &str, met: bool| {
+        writeln!(text, "| {target} | {least:.1} to {most:.1} {unit} | {} |", word(met)).expect("a string");
     };
     for (call, h, limit) in [
         ("check tray", 1, 3.0),
@@ -120,33 +119,26 @@ fn aims(rows: &[Row]) -> String {
         ("build", 8, 31.0),
         ("build", 63, 45.0),
     ] {
-        let reached = bounds(rows, h, call, library);
-        line(&format!("{call}: at most {limit} ns a record, H {h}"), reached, "ns", reached.1 <= limit);
+        let measured = bounds(rows, h, call, library);
+        line(&format!("{call}: at most {limit} ns a record, H {h}"), measured, "ns", measured.1 <= limit);
     }
     for (call, limit) in [("page, all in one", 110.0), ("page, 256 records each", 110.0), ("sheet", 60.0)] {
-        let reached = bounds(rows, 63, call, rate);
-        line(&format!("{call}: at least {limit} M records a second, H 63"), reached, "M", reached.0 >= limit);
+        let measured = bounds(rows, 63, call, rate);
+        line(&format!("{call}: at least {limit} M records a second, H 63"), measured, "M", measured.0 >= limit);
     }
-    let reached = bounds(rows, 63, "sheet", heaps);
-    line("sheet: at least 10 times a heap's speed, H 63", reached, "times", reached.0 >= 10.0);
-    // As the table shows them, so that what is told here can be found there.
+    let measured = bounds(rows, 63, "sheet", heaps);
+    line("sheet: at least 10 times a heap's speed, H 63", measured, "times", measured.0 >= 10.0);
+    // Rounded as the table shows them, so that what is said here can be found there.
     let ratio = |row: &Row| Some((100.0 * row.time("hand")? / row.time("library")?).round() / 100.0);
     let ratios: Vec<f64> = rows.iter().filter_map(ratio).collect();
     let (least, most) = ratios.iter().fold((f64::MAX, 0f64), |(least, most), &r| (least.min(r), most.max(r)));
-    let level = ratios.iter().filter(|&&ratio| ratio >= 1.0).count();
-    let behind: Vec<String> = rows
-        .iter()
-        .filter_map(|row| {
-            let size = row.d.map_or(String::new(), |d| format!(", D {d}"));
-            let ratio = ratio(row)?;
-            (ratio < 0.9).then(|| format!("{}, H {}{size} ({ratio:.2})", row.call, row.h))
-        })
-        .collect();
-    let behind = if behind.is_empty() { String::from("none is below 0.90") } else { behind.join("; ") };
+    let (level, all) = (ratios.iter().filter(|&&ratio| ratio >= 1.0).count(), ratios.len());
     writeln!(
         text,
-        "| every call: as fast as the same rules by hand, and nowhere below 0.90 | {least:.2} to {most:.2}, {level} of {} rows at 1.00 or above | {behind} |",
-        ratios.len(),
+        "| every call: as fast as the same rules by hand, a ratio of 1.00 | {level} of {all} rows | {} |\n\
+         | every call: a ratio of at least 0.90 | {least:.2} to {most:.2} | {} |",
+        word(level == all),
+        word(least >= 0.9)
     )
     .expect("a string");
     text
@@ -192,44 +184,54 @@ pub fn write(rows: &[Row], others: f64) -> io::Result<()> {
 }
 
 fn page(rows: &[Row], others: f64) -> String {
-    let (processor, table, summary, aims) = (processor(), table(rows), summary(rows), aims(rows));
+    let (processor, table, summary, targets) = (processor(), table(rows), summary(rows), targets(rows));
     format!(
         "# Benchmarks
 
-What each call takes, and what the same work takes elsewhere. `cargo bench --offline` in `rust/` measures and writes this page;
+How long each call takes, and how long the same work takes in other ways. `cargo bench --offline` in `rust/` measures and writes this page;
 `cargo bench --offline -- --quick` checks the same answers and writes nothing.
 
 ![ns a record against the number of runs](benchmarks.svg)
 
 {summary}
-D is 64 where a call depends on it; the bounds are over all trays and sizes below. Under 1.00 the hand-written rules are faster.
+Times of the library in nanoseconds, for H runs of 4,096 records (folds into one: 4,096 / H), and for D 64 where a call depends on D. The last
+column is the time of the same rules written by hand, divided by the library's: the lowest and the highest ratio of all rows at the end of this
+page. Above 1.00 the library is faster.
 
-| | |
-|---|---|
-| Machine | {processor}; one thread; other programs took {others:.0} % of the processors' time meanwhile, which makes times longer and ratios less sharp |
-| Build | library: `rt staticlib kanyorith`; Rust: `cargo bench`, opt-level 3, one codegen unit, no processor-specific flags |
-| Input | trays of H runs of 4,096 records, drawn from fixed seeds; each key in 1 to 4 runs, 5 % of the records gone, 200 points a sheet before the gone ones are taken out. Folds into one: H runs of 4,096 / H records |
-| Buffers | outputs are allocated and zeroed once, before the first round, and not cleared between rounds; inputs stay as warm as the caches hold them |
-| Times | processor time of the measuring thread, medians of 15 rounds; in each round the variants of a call run one after another, each of them once untimed and then timed. The whole table is measured five times, and each row is shown as it was when the library and the hand-written rules together took least. In brackets: how many times the library's time |
-| Answers | before anything is timed, library, hand, heap and map give the twin's answers and bytes |
-
-The columns:
+## What is compared
 
 - **library**: the proved library through its C interface.
 - **hand**: the same rules for every input, written by hand in safe Rust for speed (`rust/check/benches/hand.rs`): check index in one pass,
-  build and fold over a loser tree, a sheet that remembers its records. Above 1.00 the library is the faster one.
+  build and fold over a loser tree, a sheet that remembers its records.
 - **heap**: a merging iterator over a `BinaryHeap` of the runs, without an index.
-- **map**: a `BTreeMap` of the visible points, which takes their memory a second time and has to be built first (not counted).
+- **map**: a `BTreeMap` of the visible points. It holds them in memory a second time, and building it is not counted.
 - **memcpy**: the finished listing, copied.
 
-Get, seek and next are asked for 1,000 keys in no order, sheet for 64 sheets in no order; next has a cursor to test before each move.
+Before anything is timed, library, hand, heap and map must give the answers and bytes of the twin.
 
-What was aimed at:
+## How it is measured
 
-{aims}
-At H 63 much of the time is waiting for memory: a tray of 63 runs of 4,096 records has 6.4 MB, which is more than a processor's second cache
-commonly holds, and a merge or a listing reads it at 63 places in turn. The last rows of the table have a tray of 63 runs of 512 records, which
-fits: so they show what is the call's own. The hand-written rules wait as long.
+| | |
+|---|---|
+| Machine | {processor}, one thread. Other programs used {others:.0} % of the processors' time during the measurement |
+| Build | library: `rt staticlib kanyorith`; Rust: `cargo bench`, opt-level 3, one codegen unit, no processor-specific flags |
+| Trays | H runs of 4,096 records from fixed seeds; each key is in 1 to 4 runs, 5 % of the records are gone, and a sheet has up to 200 points. For folds of all runs into one: H runs of 4,096 / H records |
+| Requests | get, seek and next: 1,000 keys in random order, and next also tests the cursor that it is given; sheet: 64 sheets in random order |
+| Memory | outputs are allocated and zeroed once, and not cleared between rounds; inputs are as warm as the caches keep them |
+| Times | processor time of the measuring thread. In each round the variants of a call run one after another, each once untimed and then timed; a time is the median of 15 rounds. Of five such measurements each row shows the one in which library and hand together were fastest |
+
+## Targets
+
+For full runs, over every D that is measured. A target is met if the worst row meets it.
+
+{targets}
+## All rows
+
+The ratio to the library's time is in brackets.
+
+At H 63 much of the time is spent waiting for memory: a tray of 63 runs of 4,096 records has 6.4 MB, more than the second-level cache of most
+processors, and a merge or a listing reads it at 63 places in turn. The last rows are for 63 runs of 512 records, which fit into the cache, and
+so show the time of the call itself.
 
 {table}"
     )
