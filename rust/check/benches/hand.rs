@@ -180,7 +180,7 @@ fn segment_is_right(tray: &Tray, index: &Index, g: usize, places: &mut PerRun) -
         }
         let record = tray.record(run, places[run]);
         let key = be64(record);
-        // Whether a key repeats cannot be foretold: it decides the mark as a number, and no branch hangs on it.
+        // Whether a key repeats cannot be predicted: it decides the mark as a number, and no branch depends on it.
         let first = spelled == 0;
         let old = (key == last) & !first;
         let follows = ((key > last) & !first) | (old & (run > last_run)) | ((key == anchor) & first);
@@ -208,7 +208,7 @@ struct Rank {
 const NONE: Rank = Rank { key: u64::MAX, run: 64 };
 
 impl Rank {
-    /// The lesser and the greater of two. Which it is cannot be foretold.
+    /// The lesser and the greater of two. Which is which cannot be predicted.
     #[inline(always)]
     fn sorted(self, other: Rank) -> (Rank, Rank) {
         let less = (self.key < other.key) | ((self.key == other.key) & (self.run < other.run));

@@ -60,7 +60,7 @@ pub fn step(data: &[u8]) -> (&'static str, u32) {
     (call, answer.number)
 }
 
-/// A sound tray and an accepted index of it, each of them damaged or not, or bytes as they come. Both are blocks of just their length,
+/// A sound tray and an accepted index of it, each of them damaged or not, or any bytes. Both are blocks of exactly their length,
 /// so that a memory checker sees every byte read past them.
 fn draw_pair(script: &mut Script) -> (Box<[u8]>, Box<[u8]>) {
     let choice = script.below(16);
@@ -79,7 +79,7 @@ fn draw_pair(script: &mut Script) -> (Box<[u8]>, Box<[u8]>) {
     (tray.into(), index.into())
 }
 
-/// Up to 255 bytes as they come.
+/// Up to 255 bytes, any at all.
 fn draw_bytes(script: &mut Script) -> Vec<u8> {
     let length = script.below(256);
     (0..length).map(|_| script.byte()).collect()

@@ -1,8 +1,8 @@
 //! The rules of every call as sorting and plain loops: the twin that the library is compared with.
 //!
-//! Written from the words of the scope document alone; it shares no code and no way of working with the library. Each function has the
+//! Written from the words of the rules alone; it shares no code and no method with the library. Each function has the
 //! shape of a C call: it takes any bytes, answers number and figure, and leaves in its outputs what the C call leaves there. It is slow:
-//! it sorts where the library merges, and reckons each place anew from the front of its segment where the library carries places along.
+//! it sorts where the library merges, and computes each place from the front of its segment where the library carries places along.
 
 use std::cmp::Ordering;
 use std::collections::{BTreeMap, HashMap};

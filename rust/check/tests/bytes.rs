@@ -1,4 +1,4 @@
-//! Bytes of every sort in every argument, and the corpus of the fuzzer: library and twin agree, and every refusal is met.
+//! Any bytes in every argument, and the corpus of the fuzzer: library and twin agree, and every refusal is met.
 
 mod common;
 

@@ -1,4 +1,4 @@
-//! Fold: the twin's answer and bytes on every input, and what the owner asks of chains of folds.
+//! Fold: the twin's answer and bytes on every input, and what is promised of chains of folds.
 
 mod common;
 

@@ -37,7 +37,7 @@ fn all_cuts_of_a_tray_are_accepted() {
     }
 }
 
-/// Every byte of an accepted index with every other value is refused: by 4 in the head, by 5 behind it. Without a segment any D will do.
+/// Every byte of an accepted index with every other value is refused: by 4 in the head, by 5 after it. Without a segment any D will do.
 #[test]
 fn every_byte_of_an_index_is_seen() {
     let mut rng = seeded(203);

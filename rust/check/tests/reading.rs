@@ -162,7 +162,7 @@ fn listings_in_every_room() {
     }
 }
 
-/// Each cursor of an accepted index: it belongs, and page from it is the listing behind it; with one place changed it doesn't belong.
+/// Each cursor of an accepted index: it belongs, and page from it is the listing after it; with one place changed it doesn't belong.
 #[test]
 fn every_cursor_of_an_index() {
     let mut rng = seeded(306);
@@ -343,7 +343,7 @@ fn marks_alone_decide() {
     assert_eq!(listed.out[24..32], key(5));
 }
 
-/// Belonging is arithmetic and not modulo 2^16: no cursor stands behind a place that passes 65,535.
+/// Belonging is arithmetic and not modulo 2^16: no cursor stands after a place that passes 65,535.
 #[test]
 fn places_do_not_wrap() {
     let tray = tray_of(&["1 2 3"]);

@@ -1,4 +1,4 @@
-//! The small trays and the edges of the scope document as rows: what each row asserts stands in it, and both library and twin must give it.
+//! Small trays and the edges of the rules as rows: what each row asserts stands in it, and both library and twin must give it.
 
 mod common;
 

@@ -1,5 +1,5 @@
-//! Check tray and build on trays of every shape, sound and damaged: the same answer and output as the twin, and what the scope document
-//! promises of a built index.
+//! Check tray and build on trays of every shape, sound and damaged: the same answer and output as the twin, and what is
+//! promised of a built index.
 
 mod common;
 
