@@ -11,7 +11,7 @@
  *
  * Memory. The caller owns all memory. A call reads and writes only what it is given, keeps no pointer after it returns, allocates nothing, has
  * no state, and may run in any number of threads at once. A pair (pointer, length) gives the call that many bytes. The pointer of an empty pair is
- * not followed, but it must not be NULL: pass any address. Every other pointer must point to what its type says. Memory that a call writes to
+ * not dereferenced, but it must not be NULL: pass any address. Every other pointer must point to what its type says. Memory that a call writes to
  * must not overlap with anything else that the call is given.
  *
  * Answers. Each call returns the number of its refusal, or 0 (KANYORITH_OK), and writes one figure to *figure. If nothing is refused, the figure
@@ -22,13 +22,13 @@
  *   2  KANYORITH_KEY_ORDER            a key is not above the key before it in its run                         record, counted over the tray
  *   3  KANYORITH_RECORD_KIND          a kind is above 1, or a gone record has a value                         record, counted over the tray
  *   4  KANYORITH_INDEX_FRAME          the index has under 8 bytes, an H other than the tray's, a D outside    0
- *                                     H to 128, bytes 2 and 3 other than zero, or a length other than
+ *                                     H to 128, a byte 2 or 3 that is not 0, or a length other than
  *                                     8 + S (8 + 2 H + D)
- *   5  KANYORITH_SEGMENT              the index passes 4, but is not accepted                                 first wrong segment, or S if
+ *   5  KANYORITH_SEGMENT              the index is not accepted, though refusal 4 does not apply              first wrong segment, or S if
  *                                                                                                             records are left over
  *   6  KANYORITH_SEGMENT_SIZE         the D asked for is outside H to 128                                     D
  *   7  KANYORITH_ROOM                 the output is too short                                                 bytes needed
- *   8  KANYORITH_BOUNDS               fold a to b with a > b or b >= H; a prefix of 0 or over 8 bytes         b; the prefix's length
+ *   8  KANYORITH_BOUNDS               fold: a > b or b >= H; sheet: a prefix of 0 or more than 8 bytes        b; the prefix's length
  *   9  KANYORITH_PREFIX_END           the prefix's last byte is 255                                           the prefix's length
  *  10  KANYORITH_LOST                 the walk is lost: a selector names a run or a place that is not there   segment * 128 + selector
  *  11  KANYORITH_CURSOR               the cursor does not belong to this index                                the cursor's segment
@@ -37,7 +37,7 @@
  * H is the tray's number of runs, D the index's segment size, S its number of segments. Records, segments and selectors count from 0.
  *
  * Order. Each call lists its refusals below in the order of its tests, and returns the first that applies. "3/2" stands for the first wrong record
- * in tray order, and for 3 before 2 if both apply to that record.
+ * in tray order: 2 or 3, and 3 if both apply to it.
  *
  * After a refusal. A refused call has written *figure, and page has also written *count. Outputs, cursor, run and place are as they were, with one
  * exception: a page refused by 10 keeps the records that it has written, and *count says how many; refused by any other number, it has written

@@ -1,6 +1,6 @@
 //! Judges an index: `judge_index TRAY INDEX`, two files. Says how many segments an accepted index has, or why it is refused.
 //!
-//! Ends with status 0 where the index is accepted, 1 where it is refused, 2 where a file cannot be read.
+//! Ends with status 0 where the index is accepted, 1 where it is refused, 2 where the words or a file are no use.
 //!
 //!     cargo run --example judge_index -- kanyorith/examples/sample.tray kanyorith/examples/sample.index
 

@@ -1,7 +1,8 @@
 //! Lists the points of a sheet: `list_sheet TRAY INDEX SHEET`, two files and the sheet as 12 hexadecimal digits.
 //!
 //! A line for each point: number, pixel column, pixel row, longitude and latitude in millionths of a degree. Any prefix of 2 to 16
-//! digits lists the points whose keys begin with it. Ends with status 1 where the library refuses, 2 where it was not asked.
+//! digits lists the points whose keys begin with it. Ends with status 0 where the sheet is listed,
+//! 1 where the library refuses, 2 where the words or a file are no use.
 //!
 //!     cargo run --example list_sheet -- kanyorith/examples/sample.tray kanyorith/examples/sample.index 000000000007
 

@@ -4,11 +4,11 @@ use std::fmt;
 
 use crate::CURSOR_SIZE;
 
-/// The number of a run. Run 0 is the newest.
+/// The number of a run. Run 0 is the newest. See [`Stop`] for an example.
 #[derive(Clone, Copy, Debug, PartialEq, Eq, PartialOrd, Ord, Hash)]
 pub struct RunNo(pub u8);
 
-/// The place of a record in its run, from 0.
+/// The place of a record in its run, from 0. See [`Stop`] for an example.
 #[derive(Clone, Copy, Debug, PartialEq, Eq, PartialOrd, Ord, Hash)]
 pub struct Place(pub u16);
 
@@ -59,6 +59,18 @@ impl fmt::Debug for Cursor {
 }
 
 /// Where a seek or a move came to.
+///
+/// ```
+/// use kanyorith::{Place, Reader, RunNo};
+///
+/// let tray = std::fs::read("examples/sample.tray")?;
+/// let index = std::fs::read("examples/sample.index")?;
+/// let reader = Reader::open(&tray, &index)?;
+/// let stop = reader.seek(&[0, 0, 0, 0, 0, 7, 0, 2])?;
+/// assert_eq!(stop.record, Some((RunNo(1), Place(1))));
+/// assert_eq!(reader.next(&stop.cursor)?.record, None);
+/// # Ok::<(), Box<dyn std::error::Error>>(())
+/// ```
 #[derive(Clone, Copy, Debug, PartialEq, Eq)]
 pub struct Stop {
     /// Run and place of the visible record there; none at the end.
@@ -67,7 +79,7 @@ pub struct Stop {
     pub cursor: Cursor,
 }
 
-/// A page that was not refused.
+/// A page that was not refused. See [`Reader::page`](crate::Reader::page) for an example.
 #[derive(Clone, Copy, Debug, PartialEq, Eq)]
 pub struct Page {
     /// How many records it wrote, 24 bytes each.

@@ -13,7 +13,18 @@ const PAGE: usize = 256;
 /// An iterator over points in key order, made by [`Reader::range`], [`Reader::prefix`] and [`Reader::iter`]. It holds one page of points,
 /// and no more.
 ///
-/// A lost walk is an item, once, after the points before it, and ends the iteration. Through an accepted index no walk is lost.
+/// ```
+/// use kanyorith::{Point, Reader, Refusal};
+///
+/// let tray = std::fs::read("examples/sample.tray")?;
+/// let index = std::fs::read("examples/sample.index")?;
+/// let points: Result<Vec<Point>, Refusal> = Reader::open(&tray, &index)?.iter().collect();
+/// assert_eq!(points?.len(), 2);
+/// # Ok::<(), Box<dyn std::error::Error>>(())
+/// ```
+///
+/// A lost walk is an item, once, after the points before it, and ends the iteration. Through an accepted index no walk is lost; through
+/// another the points are those of the walk, up to the first key past the range.
 #[derive(Clone)]
 pub struct Points<'a> {
     reader: Reader<'a>,

@@ -55,11 +55,27 @@ impl<'a> Reader<'a> {
     }
 
     /// The tray's bytes.
+    ///
+    /// ```
+    /// # let tray = std::fs::read("examples/sample.tray")?;
+    /// # let index = std::fs::read("examples/sample.index")?;
+    /// # let reader = kanyorith::Reader::open(&tray, &index)?;
+    /// assert_eq!(kanyorith::check_tray(reader.tray()), Ok(3));
+    /// # Ok::<(), Box<dyn std::error::Error>>(())
+    /// ```
     pub fn tray(&self) -> &'a [u8] {
         self.tray
     }
 
     /// The index's bytes.
+    ///
+    /// ```
+    /// # let tray = std::fs::read("examples/sample.tray")?;
+    /// # let index = std::fs::read("examples/sample.index")?;
+    /// # let reader = kanyorith::Reader::open(&tray, &index)?;
+    /// assert_eq!(reader.index().len(), 24);
+    /// # Ok::<(), Box<dyn std::error::Error>>(())
+    /// ```
     pub fn index(&self) -> &'a [u8] {
         self.index
     }
@@ -171,12 +187,8 @@ impl<'a> Reader<'a> {
     /// # let reader = kanyorith::Reader::open(&tray, &index)?;
     /// use kanyorith::{Place, RunNo};
     ///
-    /// let first = reader.seek(&[0; 8])?;
-    /// assert_eq!(first.record, Some((RunNo(0), Place(0))));
-    /// let second = reader.next(&first.cursor)?;
-    /// assert_eq!(second.record, Some((RunNo(1), Place(1))));
-    /// let end = reader.next(&second.cursor)?;
-    /// assert_eq!(end.record, None);
+    /// assert_eq!(reader.seek(&[0; 8])?.record, Some((RunNo(0), Place(0))));
+    /// assert_eq!(reader.seek(&[255; 8])?.record, None);
     /// # Ok::<(), Box<dyn std::error::Error>>(())
     /// ```
     ///
@@ -186,7 +198,21 @@ impl<'a> Reader<'a> {
         calls::seek(self.tray, self.index, key)
     }
 
-    /// The first visible record after the cursor's own; from the end it gives the end. See [`seek`](Self::seek) for an example.
+    /// The first visible record after the cursor's own; from the end it gives the end.
+    ///
+    /// ```
+    /// # let tray = std::fs::read("examples/sample.tray")?;
+    /// # let index = std::fs::read("examples/sample.index")?;
+    /// # let reader = kanyorith::Reader::open(&tray, &index)?;
+    /// let mut stop = reader.seek(&[0; 8])?;
+    /// let mut records = 0;
+    /// while stop.record.is_some() {
+    ///     records += 1;
+    ///     stop = reader.next(&stop.cursor)?;
+    /// }
+    /// assert_eq!(records, 2);
+    /// # Ok::<(), Box<dyn std::error::Error>>(())
+    /// ```
     ///
     /// # Errors
     /// [`Cursor`](Refusal::Cursor), [`Lost`](Refusal::Lost).

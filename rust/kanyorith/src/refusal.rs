@@ -157,6 +157,21 @@ impl Error for Refusal {}
 /// A refused page: it keeps the records that it wrote before its walk was lost.
 ///
 /// Where these are of no use, `?` turns it into its [`Refusal`].
+///
+/// ```
+/// use kanyorith::{PageRefused, Reader, Refusal, listing};
+///
+/// let tray = std::fs::read("examples/sample.tray")?;
+/// let mut index = std::fs::read("examples/sample.index")?;
+/// index[22] = 0x05; // the third selector names a run that is not there
+/// let reader = Reader::open(&tray, &index)?;
+/// let mut cursor = reader.seek(&[0; 8])?.cursor;
+/// let mut out = [0; 48];
+/// let PageRefused { written, refusal } = reader.page(&mut cursor, &mut out).unwrap_err();
+/// assert_eq!(refusal, Refusal::Lost { segment: 0, selector: 2 });
+/// assert_eq!(listing(&out[..24 * written]).count(), 1);
+/// # Ok::<(), Box<dyn std::error::Error>>(())
+/// ```
 #[derive(Clone, Copy, Debug, PartialEq, Eq, Hash)]
 pub struct PageRefused {
     /// How many records stand in the output; 0 for each refusal but [`Refusal::Lost`].
