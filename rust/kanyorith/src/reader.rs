@@ -3,7 +3,7 @@
 use std::fmt;
 use std::ops::RangeBounds;
 
-use crate::{Cursor, Key, Page, PageRefused, Points, Refusal, Stop, Value, calls};
+use crate::{Cursor, KEY_SIZE, Key, Page, PageRefused, Points, Refusal, Stop, Value, calls};
 
 /// A tray and its index, to read points from.
 ///
@@ -47,8 +47,8 @@ impl<'a> Reader<'a> {
     /// # Errors
     /// [`TrayFrame`](Refusal::TrayFrame), [`IndexFrame`](Refusal::IndexFrame). Once a reader is open, none of its calls gives these.
     pub fn open(tray: &'a [u8], index: &'a [u8]) -> Result<Self, Refusal> {
-        // A sheet tests the frames first and its prefix next: one without a prefix is refused before it follows anything.
-        match calls::sheet(tray, index, &[], &mut []) {
+        // A sheet tests the frames first and its prefix next: one of nine bytes is refused before anything is followed.
+        match calls::sheet(tray, index, &[0; KEY_SIZE + 1], &mut []) {
             Err(refusal @ (Refusal::TrayFrame | Refusal::IndexFrame)) => Err(refusal),
             _ => Ok(Reader { tray, index }),
         }
