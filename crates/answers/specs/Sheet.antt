@@ -1,5 +1,5 @@
--- What sheet answers, and what it leaves in the output, for every input (document 01, order: 1, 4, 8, 9, 10, 7). It writes nothing unless all is
--- well. Assumes nothing.
+-- What sheet answers, and what it leaves in the output, for every input (docs/RULES.md, "Orders": 1, 4, 8, 9, 10, 7). It writes nothing unless all is
+-- well.
 mod Cases
 use Prim.Native.Nat.{ℕ, _-_, _*_}
 use mathlib.Core.Bool.{Bool, cond, _&&_}
@@ -12,7 +12,7 @@ use Rattle.theory.specs.Records.{Record}
 use Rattle.walk.specs.Walk.{Walked, stayed, ended, lost}
 use Rattle.walk.specs.Reads.{sheet}
 use Rattle.walk.specs.Reads.Page.{listing}
-use Rattle.walk.specs.Answers.{inFrames}
+use Rattle.answers.specs.Quick.{inFrames}
 use Rattle.answers.specs.declared.SheetAnswer.{SheetAnswer}
 use Rattle.answers.specs.declared.SheetAnswer.the-variants.{Listed, Refused}
 

@@ -6,7 +6,6 @@
 --     leaves-index, leaves-same                       what is left in the output
 --     answer-frame, -low, -high, -refused, -sound     the answers of build
 --     sounded-is                                      what a tray that was checked is
--- Assumes nothing.
 use mathlib.Core.Path.{_≡_, refl, sym, ap, ap₂, _∙_}
 use Prim.Native.Nat.{ℕ, _+_, _*_, _/_, _≤_, _<_}
 use native.Mathlib.Nat.{div-le-self}
@@ -26,7 +25,7 @@ use Rattle.tray.specs.declared.TrayAnswer.the-variants.{Records, Refused as Tra
 use Rattle.tray.specs.declared.frame.TrayFrame.{TrayFrame}
 use Rattle.tray.specs.Frame.{runCount, framed, Framing}
 use Rattle.tray.specs.Frame.Code.{opened}
-use Rattle.tray.specs.Check.{checkTray}
+use Rattle.tray.specs.Check.{checkTrayAnswer}
 use Rattle.tray.specs.Check.Theorems.{answers-records}
 use Rattle.tray.specs.Meaning.{runsOf}
 use Rattle.tray.specs.Meaning.Laws.{length-runsOf}
@@ -35,7 +34,7 @@ use Rattle.index.specs.Layout.{segmentAt}
 use Rattle.index.specs.Layout.Code.{segmentAt-le}
 use Rattle.build_spec.specs.declared.BuildAnswer.{BuildAnswer}
 use Rattle.build_spec.specs.declared.BuildAnswer.the-variants.{Written, Refused}
-use Rattle.build_spec.specs.Build.{cuts, segmentsBytes, indexBytes, indexSize, sizeFits, afterCheck, build, leaves}
+use Rattle.build_spec.specs.Build.{cuts, segmentsBytes, indexBytes, indexSize, sizeFits, afterCheck, buildAnswer, buildLeaves}
 use Rattle.build_spec.specs.Build.Bytes.{total-short}
 use Rattle.build_spec.specs.Build.Theorems.{built-most}
 use Rattle.build_marks.specs.Code.{Sounded}
@@ -106,46 +105,46 @@ module _ (d : ℕ) (t : List (List Record)) {room r : ℕ} (e : r ≡ indexSize 
   answer-short l = rw (lt-leb (indexSize d t) room (omega arith), e)
 
 -- what is left where the index was written, and where it was not
-pub leaves-index : (t out : List ℕ) {out′ : List ℕ} (d r : ℕ) → out′ ≡ put out 0 (indexBytes d (runsOf t)) → out′ ≡ leaves t d out (Written r)
-unfolding leaves
+pub leaves-index : (t out : List ℕ) {out′ : List ℕ} (d r : ℕ) → out′ ≡ put out 0 (indexBytes d (runsOf t)) → out′ ≡ buildLeaves t d out (Written r)
+unfolding buildLeaves
 leaves-index t out d r e = e
 
-pub leaves-same : (t out : List ℕ) (d : ℕ) (r : Refusal) → out ≡ leaves t d out (Refused r)
-unfolding leaves
+pub leaves-same : (t out : List ℕ) (d : ℕ) (r : Refusal) → out ≡ buildLeaves t d out (Refused r)
+unfolding buildLeaves
 leaves-same t out d r = refl
 
 module _ (t : List ℕ) (d room : ℕ) {f : TrayFrame} (g : Framing t f) where
-  pub answer-frame : f .fits ≡ false → Refused FrameRefusal ≡ build t d room
-  unfolding build
+  pub answer-frame : f .fits ≡ false → Refused FrameRefusal ≡ buildAnswer t d room
+  unfolding buildAnswer
   answer-frame n = rw (sym (g .fits) ∙ n)
 
   module _ (fit : f .fits ≡ true) where
     framed-is : framed t ≡ true
     framed-is = sym (g .fits) ∙ fit
 
-    pub answer-low : d < f .runs → Refused (SegmentSize d) ≡ build t d room
-    unfolding build sizeFits
+    pub answer-low : d < f .runs → Refused (SegmentSize d) ≡ buildAnswer t d room
+    unfolding buildAnswer sizeFits
     answer-low l = let runs-are = opened t g fit .runs in rw (framed-is, lt-leb (runCount t) d (omega arith))
 
     module _ (least : f .runs ≤ d) where
-      pub answer-high : 128 < d → Refused (SegmentSize d) ≡ build t d room
-      unfolding build sizeFits
+      pub answer-high : 128 < d → Refused (SegmentSize d) ≡ buildAnswer t d room
+      unfolding buildAnswer sizeFits
       answer-high l = let runs-are = opened t g fit .runs in rw (framed-is, le-leb (runCount t) d (omega arith), lt-leb d 128 l)
 
       module _ (most : d ≤ 128) where
-        checked-is : build t d room ≡ afterCheck d (runsOf t) room (checkTray t)
-        unfolding build sizeFits
+        checked-is : buildAnswer t d room ≡ afterCheck d (runsOf t) room (checkTrayAnswer t)
+        unfolding buildAnswer sizeFits
         checked-is = let runs-are = opened t g fit .runs in rw (framed-is, le-leb (runCount t) d (omega arith), le-leb d 128 most)
 
-        pub answer-refused : {r : Refusal} → TrayRefused r ≡ checkTray t → Refused r ≡ build t d room
+        pub answer-refused : {r : Refusal} → TrayRefused r ≡ checkTrayAnswer t → Refused r ≡ buildAnswer t d room
         unfolding afterCheck
         answer-refused e = sym (checked-is ∙ rw (sym e))
 
-        pub answer-sound : {n : ℕ} {a : BuildAnswer} → Records n ≡ checkTray t → a ≡ roomAnswer d (runsOf t) room → a ≡ build t d room
+        pub answer-sound : {n : ℕ} {a : BuildAnswer} → Records n ≡ checkTrayAnswer t → a ≡ roomAnswer d (runsOf t) room → a ≡ buildAnswer t d room
         unfolding afterCheck roomAnswer
         answer-sound e p = p ∙ sym (checked-is ∙ rw (sym e))
 
-        pub sounded-is : {n : ℕ} → Records n ≡ checkTray t → Sounded t d f n
+        pub sounded-is : {n : ℕ} → Records n ≡ checkTrayAnswer t → Sounded t d f n
         sounded-is {n} e =
             let w = answers-records t n .0 (sym e) in
             let o = opened t g fit in

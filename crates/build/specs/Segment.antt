@@ -1,4 +1,4 @@
--- What the code needs: how what was taken fills a segment, and the segments. Assumes nothing.
+-- What the code needs: how what was taken fills a segment, and the segments.
 pub mod Filled
 pub mod Given
 pub mod Loops

@@ -1,4 +1,4 @@
-// The builder of indexes (document 01, "The index"): each key's versions go into the current segment if all fit and else open a new one.
+// The builder of indexes (docs/RULES.md, "The index"): each key's versions go into the current segment if all fit and else open a new one.
 pub mod segment;
 pub mod segments;
 
@@ -8,7 +8,7 @@ use build_spec::BuildAnswer;
 use index::SegmentNo;
 use index::frame::segment_at;
 use number::put4;
-use number::wide64;
+use number::u64_of_u8;
 use refusal::Refusal;
 use tray::TrayAnswer;
 use tray::frame::TrayFrame;
@@ -20,7 +20,7 @@ ghost use Prim.Native.Nat.{_≤_};
 ghost use lib.ListN.{length};
 ghost use Rattle.number.specs.Big.{bytesOf, put};
 ghost use Rattle.tray.specs.Meaning.{runsOf};
-ghost use Rattle.build_spec.specs.Build.{indexBytes, indexSize, build as buildOf, leaves};
+ghost use Rattle.build_spec.specs.Build.{indexBytes, indexSize, buildAnswer, buildLeaves};
 ghost use Rattle.build_marks.specs.Code.{Sounded};
 ghost use Rattle.build.specs.Answers.{roomAnswer};
 
@@ -53,10 +53,10 @@ fn write_index(t: &[u8], d: u8, f: TrayFrame, n: u64, out: &mut [u8]) -> u64
 fn build_sound(t: &[u8], d: u8, f: TrayFrame, n: u64, out: &mut [u8]) -> BuildAnswer
     requires { ⌜ Sounded (now t) d f n ⌝ }
     ensures { λ r. ⌜ r ≡ roomAnswer d (runsOf (now (t .entry))) (length (now (out .entry))) ⌝ }
-    ensures { λ r. ⌜ now (out .exit) ≡ leaves (now (t .entry)) d (now (out .entry)) r ⌝ }
+    ensures { λ r. ⌜ now (out .exit) ≡ buildLeaves (now (t .entry)) d (now (out .entry)) r ⌝ }
 {
     let h = f.runs;
-    let most = 2 * (n / (wide64(d) + 1)) + 1;
+    let most = 2 * (n / (u64_of_u8(d) + 1)) + 1;
     if segment_at(SegmentNo(most as u32), h, d) <= out.len() {
         return BuildAnswer::Written(write_index(t, d, f, n, out));
     }
@@ -69,8 +69,8 @@ fn build_sound(t: &[u8], d: u8, f: TrayFrame, n: u64, out: &mut [u8]) -> BuildAn
 
 // Build: the bytes written, or refusal 1, 6, 3 or 2, or 7. After a refusal the output is as it was.
 pub fn build(t: &[u8], d: u8, out: &mut [u8]) -> BuildAnswer
-    ensures { λ r. ⌜ r ≡ buildOf (now (t .entry)) d (length (now (out .entry))) ⌝ }
-    ensures { λ r. ⌜ now (out .exit) ≡ leaves (now (t .entry)) d (now (out .entry)) r ⌝ }
+    ensures { λ r. ⌜ r ≡ buildAnswer (now (t .entry)) d (length (now (out .entry))) ⌝ }
+    ensures { λ r. ⌜ now (out .exit) ≡ buildLeaves (now (t .entry)) d (now (out .entry)) r ⌝ }
 {
     let f = tray_frame(t);
     if f.fits {

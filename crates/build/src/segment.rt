@@ -6,7 +6,7 @@ use merge::heads::head_key;
 use merge::lead::leader;
 use number::put2;
 use number::put8;
-use number::wide_size;
+use number::usize_of_u8;
 use tray::Place;
 ghost use mathlib.Core.Path.{_≡_};
 ghost use Prim.Native.Nat.{_+_, _*_, _-_, _≤_};
@@ -22,7 +22,7 @@ fn put_offsets(seg: &mut [u8], places: &[u16], h: u8)
     requires { ⌜ (8 + 2 * h ≤ length (now seg)) × (h ≤ length (now places)) ⌝ }
     ensures { λ _. ⌜ now (seg .exit) ≡ put (now (seg .entry)) 8 (offsetsFrom (now (places .entry)) h 0) ⌝ }
 {
-    let end = wide_size(h);
+    let end = usize_of_u8(h);
     let mut r: usize = 0;
     while r < end {
         put2(seg, 8 + 2 * r, places[r]);
@@ -63,8 +63,8 @@ fn put_segment(
     let anchor = leader(tops, firsts, h).key;
     put8(seg, 0, anchor);
     put_offsets(seg, places, h);
-    let from = 8 + 2 * wide_size(h);
-    let to = from + wide_size(d);
+    let from = 8 + 2 * usize_of_u8(h);
+    let to = from + usize_of_u8(d);
     let end = put_keys(
         t,
         h,
@@ -102,7 +102,7 @@ fn write_only(
     let anchor = head_key(&t[a..e], counts[0], Place(places[0]));
     put8(seg, 0, anchor);
     put_offsets(seg, places, 1);
-    let to = 10 + wide_size(d);
+    let to = 10 + usize_of_u8(d);
     let end = put_only(t, counts, starts, seg, 10, to, anchor, places);
     put_placeholders(seg, end, to);
     end - 10

@@ -2,7 +2,7 @@
 use crate::segment::write_segment;
 use index::SegmentNo;
 use index::frame::segment_at;
-use number::wide_size;
+use number::usize_of_u8;
 use tray::frame::TrayFrame;
 ghost use mathlib.Core.Path.{_≡_};
 ghost use mathlib.Core.List.{[]};
@@ -23,7 +23,7 @@ pub fn count_segments(t: &[u8], d: u8, f: TrayFrame, n: u64) -> u32
     let starts = f.starts;
     let mut places = [0u16; 63];
     let mut stretch = [0u8; 262];
-    let w = 8 + 2 * wide_size(h) + wide_size(d);
+    let w = 8 + 2 * usize_of_u8(h) + usize_of_u8(d);
     let mut left = n;
     let mut g: u32 = 0;
     while 0 < left {

@@ -1,5 +1,4 @@
 -- What the functions of the builder promise each other: how the records of a segment are taken and written. The laws stand below.
--- Assumes nothing.
 pub mod Merge
 pub mod Only
 pub mod Records

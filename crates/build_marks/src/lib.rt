@@ -1,5 +1,5 @@
 // The records of a segment: their marks, and the last key given back where it does not fit.
-use number::wide_size;
+use number::usize_of_u8;
 ghost use mathlib.Core.Path.{_≡_};
 ghost use mathlib.Core.Bool.{cond};
 ghost use Prim.Native.Nat.{_-_, _%_, _≤_, _<_};
@@ -29,7 +29,7 @@ pub fn other_key(key: u64) -> u64
 }
 
 // Where records end, and the key of the last one.
-pub struct Stop {
+pub struct Reach {
     pub at: usize,
     pub last: u64,
 }
@@ -55,7 +55,7 @@ pub fn cut_back(seg: &[u8], from: usize, at: usize, places: &mut [u16]) -> usize
     while from < i {
         i -= 1;
         let v = seg[i];
-        let r = wide_size(v % 64);
+        let r = usize_of_u8(v % 64);
         places[r] = less(places[r]);
         if v < 128 {
             return i;

@@ -1,5 +1,5 @@
--- The index that the builder writes (document 01, "The index": it puts a key's versions into the current segment if all fit and else opens a
--- new one), and its answer for every input: order 1, 6, 3/2, 7. Assumes nothing.
+-- The index that the builder writes (docs/RULES.md, "The index": it puts a key's versions into the current segment if all fit and else opens a
+-- new one), and its answer for every input: order 1, 6, 3/2, 7.
 pub mod Accepted
 pub mod Answers
 pub mod Bytes
@@ -20,7 +20,7 @@ use Rattle.theory.specs.Pack.{joined, groups, pack}
 use Rattle.tray.specs.declared.TrayAnswer.{TrayAnswer}
 use Rattle.tray.specs.declared.TrayAnswer.the-variants.{Records, Refused as TrayRefused}
 use Rattle.tray.specs.Frame.{runCount, framed}
-use Rattle.tray.specs.Check.{checkTray}
+use Rattle.tray.specs.Check.{checkTrayAnswer}
 use Rattle.tray.specs.Meaning.{runsOf}
 use Rattle.theory.specs.Listed.{listed}
 use Rattle.index.specs.Layout.{segmentAt}
@@ -73,12 +73,12 @@ afterCheck d t room (TrayRefused r) = Refused r
 afterCheck d t room (Records n) = cond (leb (indexSize d t) room) (Written (indexSize d t)) (Refused (Room (indexSize d t)))
 
 -- build's answer
-unfoldable pub build : List ℕ → ℕ → ℕ → BuildAnswer
-build t d room =
-    let checked = afterCheck d (runsOf t) room (checkTray t) in
+unfoldable pub buildAnswer : List ℕ → ℕ → ℕ → BuildAnswer
+buildAnswer t d room =
+    let checked = afterCheck d (runsOf t) room (checkTrayAnswer t) in
     cond (framed t) (cond (sizeFits (runCount t) d) checked (Refused (SegmentSize d))) (Refused TrayFrame)
 
 -- what build leaves in the output: the index at its front where it was written, and else what was there
-unfoldable pub leaves : List ℕ → ℕ → List ℕ → BuildAnswer → List ℕ
-leaves t d out (Written n) = put out 0 (indexBytes d (runsOf t))
-leaves t d out (Refused r) = out
+unfoldable pub buildLeaves : List ℕ → ℕ → List ℕ → BuildAnswer → List ℕ
+buildLeaves t d out (Written n) = put out 0 (indexBytes d (runsOf t))
+buildLeaves t d out (Refused r) = out

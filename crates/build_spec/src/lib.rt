@@ -1,4 +1,4 @@
-// What building an index answers (document 01, "The index"). The definitions and what follows from them are in specs/; the call is in `build`.
+// What building an index answers (docs/RULES.md, "The index"). The definitions and what follows from them are in specs/; the call is in `build`.
 use refusal::Refusal;
 
 // How many bytes were written, or why none were.

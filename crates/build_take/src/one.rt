@@ -1,5 +1,5 @@
 // The records of a segment where the tray has one run: they come as they stand, and nothing is kept beside the place.
-use build_marks::Stop;
+use build_marks::Reach;
 use build_marks::cut_back;
 use build_marks::gone_mark;
 use build_marks::old_mark;
@@ -51,7 +51,7 @@ fn put_run(
     to: usize,
     first: u64,
     places: &mut [u16],
-) -> Stop
+) -> Reach
     requires { ⌜ Reading (now t) (now counts) (now starts) (now places) ⌝ }
     requires { ⌜ (runCount (now t) ≡ 1) × (from ≤ to) × (to ≤ length (now seg)) ⌝ }
     ensures { λ s. ⌜ Stopped (now (t .entry)) 1 (now (places .entry)) (now (seg .entry)) from first to (now (places .exit)) (now (seg .exit)) (s .at) (s .last) ⌝ }
@@ -61,12 +61,12 @@ fn put_run(
     let mut last = first;
     while at < to {
         if n <= places[0] {
-            return Stop { at: at, last: last };
+            return Reach { at: at, last: last };
         }
         last = put_next(t, counts, starts, seg, at, last, places);
         at += 1;
     }
-    Stop { at: at, last: last }
+    Reach { at: at, last: last }
 }
 
 // Key after key written from a place on, as long as all records of each end by `to`: where they end.

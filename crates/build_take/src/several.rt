@@ -1,5 +1,5 @@
 // The records of a segment taken one by one in the order of the view, and written as selectors.
-use build_marks::Stop;
+use build_marks::Reach;
 use build_marks::cut_back;
 use build_marks::gone_mark;
 use build_marks::old_mark;
@@ -7,7 +7,7 @@ use build_marks::other_key;
 use merge::heads::advance;
 use merge::lead::choose;
 use merge::lead::leader;
-use number::wide_size;
+use number::usize_of_u8;
 use tray::Place;
 use tray::RunNo;
 use tray::run::kind_at;
@@ -39,7 +39,7 @@ fn take_record(
     ensures { λ _. ⌜ Heading (now (t .entry)) (now (counts .entry)) (now (starts .entry)) (now (places .exit)) (now (keys .exit)) (now (nexts .exit)) (now (tops .exit)) (now (firsts .exit)) ⌝ }
 {
     let n = r.0;
-    let i = wide_size(n);
+    let i = usize_of_u8(n);
     let a = starts[i];
     let e = starts[i + 1];
     let kind = kind_at(&t[a..e], Place(places[i]));
@@ -58,7 +58,7 @@ fn take_record(
 }
 
 // Record after record written from a place on, as long as there is one and it ends by `to`.
-fn put_records(
+fn put_selectors(
     t: &[u8],
     h: u8,
     counts: &[u16],
@@ -72,7 +72,7 @@ fn put_records(
     nexts: &mut [u64],
     tops: &mut [u64],
     firsts: &mut [u8],
-) -> Stop
+) -> Reach
     requires { ⌜ Heading (now t) (now counts) (now starts) (now places) (now keys) (now nexts) (now tops) (now firsts) ⌝ }
     requires { ⌜ (h ≡ runCount (now t)) × (from ≤ to) × (to ≤ length (now seg)) ⌝ }
     ensures { λ s. ⌜ Stopped (now (t .entry)) h (now (places .entry)) (now (seg .entry)) from first to (now (places .exit)) (now (seg .exit)) (s .at) (s .last) ⌝ }
@@ -84,7 +84,7 @@ fn put_records(
         let l = leader(tops, firsts, h);
         let r = choose(l, counts, places, h);
         if h <= r {
-            return Stop { at: at, last: last };
+            return Reach { at: at, last: last };
         }
         let key = l.key;
         seg[at] = take_record(
@@ -102,7 +102,7 @@ fn put_records(
         last = key;
         at += 1;
     }
-    Stop { at: at, last: last }
+    Reach { at: at, last: last }
 }
 
 // Key after key written from a place on, as long as all records of each end by `to`: where they end.
@@ -126,7 +126,7 @@ pub fn put_keys(
     ensures { λ e. ⌜ Fills (now (t .entry)) h (now (places .entry)) (now (seg .entry)) from (otherKey anchor) to (now (places .exit)) (now (seg .exit)) e ⌝ }
     ensures { λ e. ⌜ (from ≤ e) × (e ≤ to) ⌝ }
 {
-    let s = put_records(
+    let s = put_selectors(
         t,
         h,
         counts,

@@ -1,7 +1,7 @@
 // The lines of an input that comes in pieces: what is carried from piece to piece, where a line ends, and its characters gathered.
 use drawer_spec::Carried;
 use drawer_spec::Kept;
-use hex::copy;
+use number::copy;
 ghost use mathlib.Core.Path.{_≡_};
 ghost use Prim.Native.Nat.{_≤_};
 ghost use mathlib.Core.List.{_++_};
@@ -10,7 +10,7 @@ ghost use Rattle.drawer_spec.specs.Line.Front.{Front};
 ghost use Rattle.drawer_spec.specs.Feed.Code.{gatherSize, first, LineEnd};
 
 // What is carried before the first byte of an input.
-pub fn begin() -> Carried
+pub fn begin_input() -> Carried
     ensures { λ r. ⌜ r ≡ first ⌝ }
 {
     Carried {
@@ -37,8 +37,8 @@ pub fn line_end(piece: &[u8], from: usize) -> usize
     i
 }
 
-// Characters put behind those that are gathered. From the first one on that makes the line over-long they are dropped.
-pub fn gather(part: &[u8], line: &mut [u8], gathered: usize) -> usize
+// Characters put after those that are gathered. From the first one on that makes the line over-long they are dropped.
+pub fn gather_line(part: &[u8], line: &mut [u8], gathered: usize) -> usize
     requires { ⌜ (length (now line) ≡ gatherSize) × (gathered ≤ gatherSize) ⌝ }
     ensures { λ r. ⌜ Front r gatherSize (now (line .exit)) (take gatherSize (take gathered (now (line .entry)) ++ now (part .entry))) ⌝ }
 {
@@ -46,9 +46,9 @@ pub fn gather(part: &[u8], line: &mut [u8], gathered: usize) -> usize
     let n = part.len();
     if n <= left {
         let end = gathered + n;
-        copy(part, &mut line[gathered..end]);
+        copy(part, line, gathered);
         return end;
     }
-    copy(&part[..left], &mut line[gathered..]);
+    copy(&part[..left], line, gathered);
     32771
 }

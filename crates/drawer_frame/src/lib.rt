@@ -4,33 +4,33 @@ pub mod says;
 use crate::says::put_long;
 use crate::says::put_refusal;
 use crate::says::put_short;
+use answers::GetAnswer;
 use answers::SheetAnswer;
 use build::build;
 use build_spec::BuildAnswer;
 use drawer_spec::Held;
-use hex::copy;
+use number::copy;
 use seek::get::get;
 use sheet::sheet;
 use tray::TrayAnswer;
 use tray_check::check_tray;
-use walk::GetAnswer;
 ghost use mathlib.Core.Path.{_≡_};
 ghost use Prim.Native.Nat.{_≤_};
 ghost use lib.ListN.{length};
-ghost use Rattle.tray.specs.Check.{checkTray};
-ghost use Rattle.build_spec.specs.Build.{build as buildOf};
+ghost use Rattle.tray.specs.Check.{checkTrayAnswer};
+ghost use Rattle.build_spec.specs.Build.{buildAnswer};
 ghost use Rattle.drawer_spec.specs.Line.{roomSize, answerLine, afterTray, afterBuild};
 ghost use Rattle.drawer_spec.specs.Line.Front.{traySize, lineSize, getSays, sheetSays, Front, Holds};
 
 // 01: the tray is kept where it is sound.
 pub fn keep_tray(bytes: &[u8], tray: &mut [u8], out: &mut [u8]) -> Held
     requires { ⌜ (length (now bytes) ≤ traySize) × (length (now tray) ≡ traySize) × (length (now out) ≡ lineSize) ⌝ }
-    ensures { λ r. ⌜ Holds r traySize (now (tray .exit)) (now (out .exit)) (afterTray (now (bytes .entry)) (checkTray (now (bytes .entry))) .tray) (afterTray (now (bytes .entry)) (checkTray (now (bytes .entry))) .says) ⌝ }
+    ensures { λ r. ⌜ Holds r traySize (now (tray .exit)) (now (out .exit)) (afterTray (now (bytes .entry)) (checkTrayAnswer (now (bytes .entry))) .tray) (afterTray (now (bytes .entry)) (checkTrayAnswer (now (bytes .entry))) .says) ⌝ }
 {
     let a = check_tray(bytes);
     match a {
         TrayAnswer::Records(n) => {
-            copy(bytes, tray);
+            copy(bytes, tray, 0);
             Held {
                 kept: bytes.len(),
                 length: put_short(0x81, 0, n, out),
@@ -46,7 +46,7 @@ pub fn keep_tray(bytes: &[u8], tray: &mut [u8], out: &mut [u8]) -> Held
 // 02: the index is built where it is kept.
 pub fn keep_index(t: &[u8], d: u8, index: &mut [u8], out: &mut [u8]) -> Held
     requires { ⌜ (length (now index) ≡ roomSize) × (length (now out) ≡ lineSize) ⌝ }
-    ensures { λ r. ⌜ Holds r roomSize (now (index .exit)) (now (out .exit)) (afterBuild (now (t .entry)) d (buildOf (now (t .entry)) d roomSize) .index) (afterBuild (now (t .entry)) d (buildOf (now (t .entry)) d roomSize) .says) ⌝ }
+    ensures { λ r. ⌜ Holds r roomSize (now (index .exit)) (now (out .exit)) (afterBuild (now (t .entry)) d (buildAnswer (now (t .entry)) d roomSize) .index) (afterBuild (now (t .entry)) d (buildAnswer (now (t .entry)) d roomSize) .says) ⌝ }
 {
     let a = build(t, d, index);
     match a {

@@ -13,7 +13,7 @@ ghost use Rattle.drawer_spec.specs.Line.{answerLine};
 ghost use Rattle.drawer_spec.specs.Line.Front.{lineSize, Front};
 
 // The head: kind plus 0x80, refusal and figure, 12 digits. A figure has its 4 lowest bytes there.
-fn put_head(code: u8, number: u8, figure: u64, out: &mut [u8])
+fn put_answer_head(code: u8, number: u8, figure: u64, out: &mut [u8])
     requires { ⌜ 12 ≤ length (now out) ⌝ }
     ensures { λ _. ⌜ now (out .exit) ≡ put (now (out .entry)) 0 (hexOf (code ∷ number ∷ bytesOf 4 figure)) ⌝ }
 {
@@ -34,18 +34,18 @@ pub fn put_short(code: u8, number: u8, figure: u64, out: &mut [u8]) -> usize
     requires { ⌜ length (now out) ≡ lineSize ⌝ }
     ensures { λ r. ⌜ Front r lineSize (now (out .exit)) (answerLine (code ∷ number ∷ bytesOf 4 figure)) ⌝ }
 {
-    put_head(code, number, figure, out);
+    put_answer_head(code, number, figure, out);
     out[12] = 10;
     13
 }
 
-// An answer with more behind its head: the length of its line.
+// An answer with more after its head: the length of its line.
 pub fn put_long(code: u8, figure: u64, more: &[u8], out: &mut [u8]) -> usize
     requires { ⌜ length (now out) ≡ lineSize ⌝ }
     requires { ⌜ 13 + 2 * length (now more) ≤ lineSize ⌝ }
     ensures { λ r. ⌜ Front r lineSize (now (out .exit)) (answerLine (code ∷ 0 ∷ (bytesOf 4 figure ++ now (more .entry)))) ⌝ }
 {
-    put_head(code, 0, figure, out);
+    put_answer_head(code, 0, figure, out);
     encode(more, out, 12);
     let end = 12 + 2 * more.len();
     out[end] = 10;

@@ -1,7 +1,7 @@
 // The program: standard input to its end, in whatever pieces the system hands out, and the answer lines to standard output in large writes. What
 // happens in between is `take_lines` and `finish`: of a piece `serve` promises that each byte is fed once, in order, and that the output holds the
 // end of what was said. No contract can say what is read or written: that a piece is what was read, and that what left the output was written.
-use drawer_feed::begin;
+use drawer_feed::begin_input;
 use drawer_read::finish;
 use drawer_serve::Served;
 use drawer_serve::serve;
@@ -76,7 +76,7 @@ fn read_all(
 )
     requires { ⌜ Buffers (now line) (now tray) (now index) (now frame) (now room) (now output) ⌝ }
 {
-    let mut state = begin();
+    let mut state = begin_input();
     let mut turns = u64::MAX;
     while turns > 0 {
         let served = read_some(state, input, line, tray, index, frame, room, output);

@@ -1,4 +1,4 @@
-// The line language of the program `drawer` (document 01): one line in, the kept tray and index and the answer line out. A line is any bytes
+// The line language of the program `drawer` (docs/DRAWER.md): one line in, the kept tray and index and the answer line out. A line is any bytes
 // without a line feed; what it does and says is `turn`, for every line.
 use drawer_frame::keep_index;
 use drawer_frame::keep_tray;
@@ -9,7 +9,7 @@ use drawer_spec::Kept;
 use drawer_spec::Told;
 use hex::all_digits;
 use hex::decode;
-use number::wide_32;
+use number::u64_of_u32;
 ghost use mathlib.Core.Path.{_≡_};
 ghost use Prim.Native.Nat.{_≤_};
 ghost use lib.ListN.{length, take};
@@ -39,7 +39,7 @@ fn put_bad(number: u32, out: &mut [u8]) -> usize
     requires { ⌜ length (now out) ≡ lineSize ⌝ }
     ensures { λ r. ⌜ Front r lineSize (now (out .exit)) (answerLine (badAnswer number)) ⌝ }
 {
-    put_short(0xff, 13, wide_32(number), out)
+    put_short(0xff, 13, u64_of_u32(number), out)
 }
 
 // The answer line of a frame that changes nothing: 03, 04, or one that is not known.

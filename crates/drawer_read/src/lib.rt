@@ -1,6 +1,6 @@
 // The lines of an input that comes in pieces, and their answers: what a piece adds to what is carried. It neither reads nor writes; what it does
 // with any pieces is `feed`, as if all bytes came at once.
-use drawer_feed::gather;
+use drawer_feed::gather_line;
 use drawer_feed::line_end;
 use drawer_line::answer_line;
 use drawer_spec::Carried;
@@ -10,7 +10,7 @@ ghost use Prim.Native.Nat.{_≤_};
 ghost use lib.ListN.{length};
 ghost use Rattle.drawer_spec.specs.Feed.Code.{gatherSize, lastRoom, Rooms, Answers, Ends, Takes, Finishes};
 
-// The turn of a line that has ended: its answer line goes behind what the output holds.
+// The turn of a line that has ended: its answer line goes after what the output holds.
 fn answer(
     line: &[u8],
     carried: Carried,
@@ -47,7 +47,7 @@ fn answer(
     }
 }
 
-// A line feed behind these characters. A line that lies whole in the piece is not copied.
+// A line feed after these characters. A line that lies whole in the piece is not copied.
 fn end_line(
     part: &[u8],
     carried: Carried,
@@ -67,7 +67,7 @@ fn end_line(
     if g == 0 {
         return answer(part, carried, tray, index, frame, room, output);
     }
-    let n = gather(part, line, g);
+    let n = gather_line(part, line, g);
     answer(&line[..n], carried, tray, index, frame, room, output)
 }
 
@@ -95,7 +95,7 @@ pub fn take_lines(
         let end = line_end(piece, i);
         if end == n {
             let kept = state.kept;
-            let g = gather(&piece[i..], line, state.gathered);
+            let g = gather_line(&piece[i..], line, state.gathered);
             return Taken {
                 carried: Carried {
                     kept,

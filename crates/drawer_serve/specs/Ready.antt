@@ -1,4 +1,4 @@
--- What holds of the buffers and of what is carried before each read. Assumes nothing.
+-- What holds of the buffers and of what is carried before each read.
 use mathlib.Core.Path.{_≡_, ap}
 use mathlib.Core.Logic.{_⊎_}
 use Prim.Native.Nat.{ℕ, _≤_}

@@ -1,5 +1,5 @@
 -- What a piece of the input does to what is carried: each of its bytes is fed once, in order, and the output holds the end of what was said. What
--- was said before that has left the output; that it was written no contract can say. Assumes nothing.
+-- was said before that has left the output; that it was written no contract can say.
 pub mod Laws
 use mathlib.Core.Path.{_≡_}
 use Prim.Native.Nat.{ℕ, _≤_}

@@ -1,4 +1,4 @@
--- The lines of document 01, "The program `drawer`", and what the words there leave to a case, each by computation.
+-- The lines of docs/DRAWER.md, "The program `drawer`", and what the words there leave to a case, each by computation.
 use mathlib.Core.Path.{_≡_, refl}
 use Prim.Native.Nat.{ℕ}
 use Prim.Native.Char.{code}
@@ -13,17 +13,18 @@ use Rattle.theory.specs.Places.{count}
 use Rattle.theory.specs.Pack.{joined, grouped, groups, packOn, pack}
 use Rattle.tray.specs.Frame.{runCount, countOf, recordsBefore, startOf, runBytes, headerFits, countsFit, framed}
 use Rattle.tray.specs.Run.{recordFrom, kindWrong, keyWrong, judgeFrom}
-use Rattle.tray.specs.Check.{afterRun, checkRuns, checkTray}
+use Rattle.tray.specs.Check.{afterRun, checkRuns, checkTrayAnswer}
 use Rattle.tray.specs.Meaning.{runOf, runsOf}
 use Rattle.index.specs.Layout.{sizeOf, segmentCount, headSize, segmentAt, indexFramed}
 use Rattle.index.specs.Rules.{selectorOf}
 use Rattle.index.specs.Scan.{raise}
-use Rattle.build_spec.specs.Build.{cuts, anchorOf, offsetsBytes, segmentBytes, segmentsBytes, indexBytes, indexSize, sizeFits, afterCheck, build}
+use Rattle.build_spec.specs.Build.{cuts, anchorOf, offsetsBytes, segmentBytes, segmentsBytes, indexBytes, indexSize, sizeFits, afterCheck, buildAnswer}
 use Rattle.walk.specs.Start.{probe, start}
 use Rattle.walk.specs.Walk.{loaded, named, walkSelectors, walkSegments, walkFrom}
 use Rattle.walk.specs.Reads.{recordBy, unmarked, foundBy, seekVisit, seek, gotFrom, get, lowKey, highKey, sheetVisit, sheetFrom, sheet, listedBytes}
 use Rattle.walk.specs.Reads.Page.{listing}
-use Rattle.walk.specs.Answers.{inFrames, gotTold, getFramed, getAnswer}
+use Rattle.answers.specs.Quick.{inFrames}
+use Rattle.answers.specs.Get.{gotTold, getFramed, getAnswer}
 use Rattle.answers.specs.Sheet.{prefixLong, prefixLast, listedIn, sheetTold, recordsOf, sheetFramed, sheetAnswer}
 use Rattle.hex.specs.Hex.{isDigit, digitOf, digit, allDigits, bytesIn, hexOf}
 use Rattle.drawer_spec.specs.Line.{Turn, answer, refusal, badAnswer, afterTray, afterBuild, afterGet, afterSheet, formed, known, frameTurn, turn, answerLine}
@@ -42,8 +43,8 @@ spelt s = bytesIn (chars s)
 unfoldable pub taken : List ℕ → List ℕ → ℕ → List ℕ → Turn
 unfolding chars spelt
     turn frameTurn known formed afterTray afterBuild afterGet afterSheet badAnswer refusal answer allDigits isDigit bytesIn digitOf listed bytesOf be
-    checkTray checkRuns afterRun judgeFrom kindWrong keyWrong recordFrom framed headerFits countsFit runCount countOf recordsBefore startOf runBytes
-    build afterCheck sizeFits indexSize segmentAt headSize indexBytes segmentsBytes segmentBytes offsetsBytes anchorOf cuts selectorOf
+    checkTrayAnswer checkRuns afterRun judgeFrom kindWrong keyWrong recordFrom framed headerFits countsFit runCount countOf recordsBefore startOf runBytes
+    buildAnswer afterCheck sizeFits indexSize segmentAt headSize indexBytes segmentsBytes segmentBytes offsetsBytes anchorOf cuts selectorOf
     runsOf runOf joined count pack packOn groups grouped view entriesFrom spread insertAll insert old hidden any
     getAnswer inFrames getFramed gotTold get gotFrom seek start probe walkFrom walkSegments walkSelectors loaded named seekVisit recordBy unmarked foundBy
     indexFramed segmentCount sizeOf raise

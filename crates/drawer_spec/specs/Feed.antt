@@ -1,5 +1,5 @@
--- What the program has kept and said, byte by byte of its input (document 01, "The program `drawer`": a line feed ends a line; bytes after the
--- last one are a line too; at the start tray and index are empty). Assumes nothing.
+-- What the program has kept and said, byte by byte of its input (docs/DRAWER.md, "The program `drawer`": a line feed ends a line; bytes after the
+-- last one are a line too; at the start tray and index are empty).
 mod Cases
 pub mod Code
 pub mod Laws

@@ -1,4 +1,4 @@
--- The program `drawer` (document 01, "The program `drawer`"): its lines, and its input.
+-- The program `drawer` (docs/DRAWER.md, "The program `drawer`"): its lines, and its input.
 -- what a line does and says
 pub mod Line
 -- a turn in its buffers

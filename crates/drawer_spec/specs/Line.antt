@@ -1,5 +1,5 @@
--- What a line does to the kept tray and index, and what its answer line says (document 01, "The program `drawer`"), for every line of any bytes.
--- A tray or index that is not there is empty. Assumes nothing.
+-- What a line does to the kept tray and index, and what its answer line says (docs/DRAWER.md, "The program `drawer`"), for every line of any bytes.
+-- A tray or index that is not there is empty.
 pub mod Front
 pub mod Code
 use Prim.Native.Nat.{ℕ, _+_, _%_}
@@ -12,14 +12,14 @@ use Rattle.refusal.specs.declared.Refusal.{Refusal}
 use Rattle.refusal.specs.Table.{verdictOf}
 use Rattle.tray.specs.declared.TrayAnswer.{TrayAnswer}
 use Rattle.tray.specs.declared.TrayAnswer.the-variants.{Records, Refused as TrayRefused}
-use Rattle.tray.specs.Check.{checkTray}
+use Rattle.tray.specs.Check.{checkTrayAnswer}
 use Rattle.tray.specs.Meaning.{runsOf}
 use Rattle.build_spec.specs.declared.BuildAnswer.{BuildAnswer}
 use Rattle.build_spec.specs.declared.BuildAnswer.the-variants.{Written, Refused as BuildRefused}
-use Rattle.build_spec.specs.Build.{build, indexBytes}
-use Rattle.walk.specs.declared.GetAnswer.{GetAnswer}
-use Rattle.walk.specs.declared.GetAnswer.the-variants.{Found, Absent, Refused as GetRefused}
-use Rattle.walk.specs.Answers.{getAnswer}
+use Rattle.build_spec.specs.Build.{buildAnswer, indexBytes}
+use Rattle.answers.specs.declared.GetAnswer.{GetAnswer}
+use Rattle.answers.specs.declared.GetAnswer.the-variants.{Found, Absent, Refused as GetRefused}
+use Rattle.answers.specs.Get.{getAnswer}
 use Rattle.walk.specs.Reads.{sheet}
 use Rattle.walk.specs.Reads.Page.{listing}
 use Rattle.answers.specs.declared.SheetAnswer.{SheetAnswer}
@@ -86,8 +86,8 @@ frameTurn t x frame =
     let kind = getD frame 0 0 in
     let rest = drop 1 frame in
     let looked = getAnswer t x rest in
-    cond (eqb kind 1) (afterTray rest (checkTray rest))
-    (cond (eqb kind 2) (afterBuild t (getD frame 1 0) (build t (getD frame 1 0) roomSize))
+    cond (eqb kind 1) (afterTray rest (checkTrayAnswer rest))
+    (cond (eqb kind 2) (afterBuild t (getD frame 1 0) (buildAnswer t (getD frame 1 0) roomSize))
     (cond (eqb kind 3) (record { tray = t; index = x; says = afterGet (looked .answer) (looked .value) })
     (record { tray = t; index = x; says = afterSheet (listing (recordsOf (sheet t x rest))) (sheetAnswer t x rest roomSize) })))
 

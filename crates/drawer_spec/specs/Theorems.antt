@@ -1,10 +1,9 @@
--- What follows from `turn` for every line (document 01, "The program `drawer`").
+-- What follows from `turn` for every line (docs/DRAWER.md, "The program `drawer`").
 --     bad-formed, bad-frame     a bad line changes nothing, and says ff0d with its number
 --     over-long, turn-front     an over-long line is bad; what stands from character 32,771 on does not matter
 --     tray-alone, sheet-alone   01 alone is check tray of nothing, 04 alone is sheet with an empty prefix
 --     says-bytes, says-room     what a line says are bytes, at most 6 and a full room
 --     answer-digits, answer-room     so an answer line has digits and one line feed at its end, at most 65,549 of them
--- Assumes nothing.
 use mathlib.Core.Path.{_≡_, refl, sym, ap, _∙_}
 use Prim.Native.Nat.{ℕ, zero, suc, _+_, _≤_, _<_}
 use native.Mathlib.Omega.{arith}
@@ -24,19 +23,19 @@ use Rattle.theory.specs.Listed.{listed}
 use Rattle.theory.specs.Tests.{split, cases}
 use Rattle.tray.specs.declared.TrayAnswer.{TrayAnswer}
 use Rattle.tray.specs.declared.TrayAnswer.the-variants.{Records, Refused as TrayRefused}
-use Rattle.tray.specs.Check.{checkTray}
+use Rattle.tray.specs.Check.{checkTrayAnswer}
 use Rattle.tray.specs.Meaning.{runsOf}
 use Rattle.build_spec.specs.declared.BuildAnswer.{BuildAnswer}
 use Rattle.build_spec.specs.declared.BuildAnswer.the-variants.{Written, Refused as BuildRefused}
-use Rattle.build_spec.specs.Build.{build, indexBytes}
+use Rattle.build_spec.specs.Build.{buildAnswer, indexBytes}
 use Rattle.build_spec.specs.Build.Answers.{build-written}
 use Rattle.build_spec.specs.Build.Bytes.{length-indexBytes, bytes-indexBytes}
 use Rattle.build_spec.specs.Build.Theorems.{sound-ready}
-use Rattle.walk.specs.declared.Gets.{Gets}
-use Rattle.walk.specs.declared.GetAnswer.{GetAnswer}
-use Rattle.walk.specs.declared.GetAnswer.the-variants.{Found, Absent, Refused as GetRefused}
-use Rattle.walk.specs.Answers.{getAnswer, getFramed, gotTold, refusedGet}
-use Rattle.walk.specs.Answers.Hands.{in-frames}
+use Rattle.answers.specs.declared.ValueAnswer.{ValueAnswer}
+use Rattle.answers.specs.declared.GetAnswer.{GetAnswer}
+use Rattle.answers.specs.declared.GetAnswer.the-variants.{Found, Absent, Refused as GetRefused}
+use Rattle.answers.specs.Get.{getAnswer, getFramed, gotTold, refusedGet}
+use Rattle.answers.specs.Seek.Hands.{in-frames}
 use Rattle.walk.specs.Reads.{Got, value, absent, get-lost, get, listedBytes, sheet}
 use Rattle.walk.specs.Reads.Page.{listing, length-listing}
 use Rattle.answers.specs.declared.SheetAnswer.{SheetAnswer}
@@ -72,7 +71,7 @@ turn-front t x n line =
     over-long t x n line long ∙ sym (over-long t x n (take 32771 line) (omega arith)))
 
 -- 01 alone is check tray of nothing
-pub tray-alone : (t x : List ℕ) (n : ℕ) → turn t x n (48 ∷ 49 ∷ []) ≡ afterTray [] (checkTray [])
+pub tray-alone : (t x : List ℕ) (n : ℕ) → turn t x n (48 ∷ 49 ∷ []) ≡ afterTray [] (checkTrayAnswer [])
 unfolding turn formed known frameTurn allDigits isDigit bytesIn digitOf listed
 tray-alone t x n = refl
 
@@ -129,7 +128,7 @@ unfolding afterTray
 sayable-tray t (Records n) = sayable-answer 1 0 n [] (omega arith) (omega arith) none-bytes (omega arith)
 sayable-tray t (TrayRefused r) = sayable-refusal 1 r (omega arith)
 
-sayable-build : (t : List ℕ) (d : ℕ) (a : BuildAnswer) → build t d roomSize ≡ a → Sayable (afterBuild t d a .says)
+sayable-build : (t : List ℕ) (d : ℕ) (a : BuildAnswer) → buildAnswer t d roomSize ≡ a → Sayable (afterBuild t d a .says)
 unfolding afterBuild
 sayable-build t d (Written n) e =
     let w = build-written t d roomSize n .0 e in
@@ -143,7 +142,7 @@ zeros (suc n) i = bytes-cons 0 (replicate n 0) (omega arith) (zeros n) i
 
 value-bytes : (t x key : List ℕ) → Bytes (getAnswer t x key .value)
 unfolding getAnswer getFramed gotTold
-value-bytes t x key = in-frames (λ (g : Gets). Bytes (g .value)) refusedGet t x _ (λ r. zeros 16) (λ f i. told (get t x _))
+value-bytes t x key = in-frames (λ (g : ValueAnswer). Bytes (g .value)) refusedGet t x _ (λ r. zeros 16) (λ f i. told (get t x _))
   where
     told : (g : Got) → Bytes (gotTold g .value)
     told (value v) = bytes-bytesOf 16 v
@@ -187,7 +186,7 @@ unfolding ignored
 sayable-heard t x n frame =
     let kind = getD frame 0 0 in
     let rest = drop 1 frame in
-    cases (eqb kind 1) (λ y. rw (heard-1 t x n frame (eqb-true kind 1 y)) (sayable-tray rest (checkTray rest)))
+    cases (eqb kind 1) (λ y. rw (heard-1 t x n frame (eqb-true kind 1 y)) (sayable-tray rest (checkTrayAnswer rest)))
     (λ a. cases (eqb kind 2)
     (λ y. cases (eqb (length frame) 2) (λ z. rw (heard-2 t x n frame (eqb-true kind 2 y) (eqb-true (length frame) 2 z)) (sayable-build t (getD frame 1 0) _ refl))
     (λ z. rw (heard-2-wrong t x n frame (eqb-true kind 2 y) (eqb-false (length frame) 2 z)) (sayable-bad n)))
@@ -199,7 +198,7 @@ unfolding ignored
 turn-sayable t x n line =
     cases (formed line) (λ y. rw (turn-heard t x n line y) (sayable-heard t x n (bytesIn line))) (λ y. rw (turn-ignored t x n line y) (sayable-bad n))
 
--- an answer line: digits, and a line feed behind them
+-- an answer line: digits, and a line feed after them
 pub record LineOf (line : List ℕ) : Type 0 where
   pub digits : List ℕ
   pub all-digits : allDigits digits ≡ true

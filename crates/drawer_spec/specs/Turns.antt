@@ -4,7 +4,6 @@
 --     formed-.., heard-..                  each way out of `formed` and each kind
 --     readSays, read-..                    each way out of `answer_read`
 --     answered-..                          each way out of `answer_frame`, and of `answer_line`
--- Assumes nothing.
 use mathlib.Core.Path.{_≡_, refl, sym, ap, _∙_, subst}
 use Prim.Native.Nat.{ℕ, _+_, _-_, _/_, _%_, _≤_, _<_}
 use native.Mathlib.Omega.{arith}
@@ -20,10 +19,10 @@ use Rattle.number.specs.Big.Writes.{length-put, take-put}
 use Rattle.theory.specs.Tests.{cases, and-left, and-right}
 use Rattle.tray.specs.declared.TrayAnswer.{TrayAnswer}
 use Rattle.tray.specs.declared.TrayAnswer.the-variants.{Records, Refused as TrayRefused}
-use Rattle.tray.specs.Check.{checkTray}
+use Rattle.tray.specs.Check.{checkTrayAnswer}
 use Rattle.build_spec.specs.declared.BuildAnswer.{BuildAnswer}
 use Rattle.build_spec.specs.declared.BuildAnswer.the-variants.{Written, Refused as BuildRefused}
-use Rattle.build_spec.specs.Build.{build}
+use Rattle.build_spec.specs.Build.{buildAnswer}
 use Rattle.drawer_spec.specs.declared.Kept.{Kept}
 use Rattle.drawer_spec.specs.declared.Told.{Told}
 use Rattle.drawer_spec.specs.declared.Held.{Held}
@@ -118,7 +117,7 @@ formed-known line e =
       digits = and-right (leb n 32770) _ last;
     }
 
--- what stands behind the kind, as the code lends it
+-- what stands after the kind, as the code lends it
 abbrev pub behind : List ℕ → List ℕ
 behind frame = take (length frame - 1) (drop 1 frame)
 
@@ -127,11 +126,11 @@ behind-is frame = take-all (length frame - 1) (drop 1 frame) (simp length-drop (
 
 -- what a frame of each kind does
 module _ (t x : List ℕ) (n : ℕ) (frame : List ℕ) where
-  pub heard-1 : getD frame 0 0 ≡ 1 → heard t x n frame ≡ afterTray (drop 1 frame) (checkTray (drop 1 frame))
+  pub heard-1 : getD frame 0 0 ≡ 1 → heard t x n frame ≡ afterTray (drop 1 frame) (checkTrayAnswer (drop 1 frame))
   unfolding heard known frameTurn
   heard-1 e = rw e
 
-  pub heard-2 : getD frame 0 0 ≡ 2 → length frame ≡ 2 → heard t x n frame ≡ afterBuild t (getD frame 1 0) (build t (getD frame 1 0) roomSize)
+  pub heard-2 : getD frame 0 0 ≡ 2 → length frame ≡ 2 → heard t x n frame ≡ afterBuild t (getD frame 1 0) (buildAnswer t (getD frame 1 0) roomSize)
   unfolding heard known frameTurn
   heard-2 e l = rw (e, l)
 
@@ -195,22 +194,22 @@ module _ {kept : Kept} {tray index room out : List ℕ} (b : Buffers kept tray i
   kept-index = record { room-is = b .index-room; fits = b .index-fits; is = refl }
 
   pub answered-tray : (frame : List ℕ) {h : Held} {tray₁ out₁ : List ℕ} → getD frame 0 0 ≡ 1
-      → Holds h traySize tray₁ out₁ (afterTray (behind frame) (checkTray (behind frame)) .tray) (afterTray (behind frame) (checkTray (behind frame)) .says)
+      → Holds h traySize tray₁ out₁ (afterTray (behind frame) (checkTrayAnswer (behind frame)) .tray) (afterTray (behind frame) (checkTrayAnswer (behind frame)) .says)
       → Answered (After frame) (record { kept = record { tray = h .kept; index = 0 }; length = h .length }) tray₁ index out₁
   answered-tray frame e h =
       let bytes = behind frame in
       rw (heard-1 (take (kept .tray) tray) (take (kept .index) index) n frame e, ← behind-is frame)
-      (record { keeps-tray = h .kept; keeps-index = rw (tray-index bytes (checkTray bytes)) (front-none roomSize index (b .index-room)); says = h .told })
+      (record { keeps-tray = h .kept; keeps-index = rw (tray-index bytes (checkTrayAnswer bytes)) (front-none roomSize index (b .index-room)); says = h .told })
 
   pub answered-build : (frame : List ℕ) {h : Held} {index₁ out₁ : List ℕ} → getD frame 0 0 ≡ 2 → length frame ≡ 2
-      → Holds h roomSize index₁ out₁ (afterBuild (take (kept .tray) tray) (getD frame 1 0) (build (take (kept .tray) tray) (getD frame 1 0) roomSize) .index)
-      (afterBuild (take (kept .tray) tray) (getD frame 1 0) (build (take (kept .tray) tray) (getD frame 1 0) roomSize) .says)
+      → Holds h roomSize index₁ out₁ (afterBuild (take (kept .tray) tray) (getD frame 1 0) (buildAnswer (take (kept .tray) tray) (getD frame 1 0) roomSize) .index)
+      (afterBuild (take (kept .tray) tray) (getD frame 1 0) (buildAnswer (take (kept .tray) tray) (getD frame 1 0) roomSize) .says)
       → Answered (After frame) (record { kept = record { tray = kept .tray; index = h .kept }; length = h .length }) tray index₁ out₁
   answered-build frame e l h =
       let t = take (kept .tray) tray in
       let d = getD frame 1 0 in
       rw (heard-2 t (take (kept .index) index) n frame e l)
-      (record { keeps-tray = rw (build-tray t d (build t d roomSize)) kept-tray; keeps-index = h .kept; says = h .told })
+      (record { keeps-tray = rw (build-tray t d (buildAnswer t d roomSize)) kept-tray; keeps-index = h .kept; says = h .told })
 
   -- nothing kept is changed
   stays : {turn : Turn} {says : List ℕ} {k : ℕ} {out₁ : List ℕ} → turn ≡ record { tray = take (kept .tray) tray; index = take (kept .index) index; says = says }

@@ -1,4 +1,4 @@
-// What the program `drawer` does with a line and with an input (document 01, "The program `drawer`"). There is no code here: the definitions and
+// What the program `drawer` does with a line and with an input (docs/DRAWER.md, "The program `drawer`"). There is no code here: the definitions and
 // laws are in specs/.
 
 // How much is kept of the buffer that a line fills, and the length of its answer line.
@@ -28,7 +28,7 @@ pub struct Carried {
     pub filled: usize,
 }
 
-// What is carried behind a piece, and how far the piece has been taken.
+// What is carried after a piece, and how far the piece has been taken.
 pub struct Taken {
     pub carried: Carried,
     pub at: usize,

@@ -5,7 +5,6 @@
 --     one-run                                     one run folded is the tray as it is
 --     answer-frame, -low, -high, -refused, -sound the answers of fold
 --     folding-is                                  what a tray that was checked is
--- Assumes nothing.
 use mathlib.Core.Path.{_≡_, refl, sym, ap, _∙_, subst}
 use Prim.Native.Nat.{ℕ, _≤_, _<_}
 use mathlib.Core.Bool.{true, false}
@@ -25,14 +24,14 @@ use Rattle.tray.specs.declared.TrayAnswer.the-variants.{Records, Refused as Tra
 use Rattle.tray.specs.declared.frame.TrayFrame.{TrayFrame}
 use Rattle.tray.specs.Frame.{runCount, framed, Framing}
 use Rattle.tray.specs.Frame.Code.{opened}
-use Rattle.tray.specs.Check.{checkTray}
+use Rattle.tray.specs.Check.{checkTrayAnswer}
 use Rattle.tray.specs.Check.Theorems.{answers-records}
 use Rattle.tray.specs.Meaning.{runsOf}
 use Rattle.tray.specs.Meaning.Laws.{length-runsOf, runs-good}
 use Rattle.tray.specs.Meaning.Back.{fits-runs}
 use Rattle.fold_spec.specs.declared.FoldAnswer.{FoldAnswer}
 use Rattle.fold_spec.specs.declared.FoldAnswer.the-variants.{Written, Refused}
-use Rattle.fold_spec.specs.Fold.{keyOf, foldedRun, foldedRuns, foldBytes, foldSize, boundsHold, afterCheck, foldAnswer, leaves}
+use Rattle.fold_spec.specs.Fold.{keyOf, foldedRun, foldedRuns, foldBytes, foldSize, boundsHold, afterCheck, foldAnswer, foldLeaves}
 use Rattle.fold_spec.specs.Fold.Laws.{keyRule, length-foldBytes, fold-copies}
 use Rattle.fold_merge.specs.Folding.{Folding, Noted, mergedRun}
 use Rattle.fold.specs.Write.{soundAnswer}
@@ -51,12 +50,12 @@ module _ (a b : ℕ) (t : List (List Record)) (room : ℕ) where
   answer-short e l f k = rw (le-leb (length (foldedRun a b t)) 4096 (rw e at l), lt-leb (foldSize a b t) room (rw f at k), f)
 
 module _ (t out : List ℕ) (a b : ℕ) where
-  pub leaves-tray : {out′ : List ℕ} (n : ℕ) → out′ ≡ put out 0 (foldBytes a b (runsOf t)) → out′ ≡ leaves t a b out (Written n)
-  unfolding leaves
+  pub leaves-tray : {out′ : List ℕ} (n : ℕ) → out′ ≡ put out 0 (foldBytes a b (runsOf t)) → out′ ≡ foldLeaves t a b out (Written n)
+  unfolding foldLeaves
   leaves-tray n e = e
 
-  pub leaves-same : (r : Refusal) → out ≡ leaves t a b out (Refused r)
-  unfolding leaves
+  pub leaves-same : (r : Refusal) → out ≡ foldLeaves t a b out (Refused r)
+  unfolding foldLeaves
   leaves-same r = refl
 
 -- the merge of the runs a to b is the folded run
@@ -106,17 +105,17 @@ module _ (t : List ℕ) (a b : ℕ) {f : TrayFrame} (room : ℕ) (g : Framing t 
         in-tray : b < runCount t
         in-tray = rw (g .runs frame-is) at within
 
-        past-bounds : foldAnswer t a b room ≡ afterCheck a b (runsOf t) room (checkTray t)
+        past-bounds : foldAnswer t a b room ≡ afterCheck a b (runsOf t) room (checkTrayAnswer t)
         unfolding foldAnswer boundsHold
         past-bounds = rw (frame-is, le-leb a b order, lt-ltb b (runCount t) in-tray)
 
-        pub answer-refused : {r : Refusal} → TrayRefused r ≡ checkTray t → Refused r ≡ foldAnswer t a b room
+        pub answer-refused : {r : Refusal} → TrayRefused r ≡ checkTrayAnswer t → Refused r ≡ foldAnswer t a b room
         unfolding afterCheck
         answer-refused e = sym (past-bounds ∙ rw (sym e))
 
-        pub answer-sound : {n : ℕ} {r : FoldAnswer} → Records n ≡ checkTray t → r ≡ soundAnswer a b (runsOf t) room → r ≡ foldAnswer t a b room
+        pub answer-sound : {n : ℕ} {r : FoldAnswer} → Records n ≡ checkTrayAnswer t → r ≡ soundAnswer a b (runsOf t) room → r ≡ foldAnswer t a b room
         unfolding afterCheck soundAnswer
         answer-sound e q = q ∙ sym (past-bounds ∙ rw (sym e))
 
-        pub folding-is : {n : ℕ} → Records n ≡ checkTray t → Folding t a b f
+        pub folding-is : {n : ℕ} → Records n ≡ checkTrayAnswer t → Folding t a b f
         folding-is {n} e = record { opened = opened t g fits; sound = answers-records t n .0 (sym e) .0; order = order; within = in-tray }

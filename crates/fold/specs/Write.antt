@@ -1,5 +1,4 @@
 -- What the functions of fold promise each other: the parts of the folded tray, and the answer for a sound tray. The laws stand below.
--- Assumes nothing.
 pub mod Parts
 pub mod Trays
 pub mod Writes

@@ -1,11 +1,11 @@
-// Folding neighbouring runs into one (document 01, "Folding").
+// Folding neighbouring runs into one (docs/RULES.md, "Folding").
 pub mod write;
 
-use crate::write::copy;
 use crate::write::write_tray;
 use fold_merge::merge_runs;
 use fold_spec::FoldAnswer;
-use number::wide_size;
+use number::copy;
+use number::usize_of_u8;
 use refusal::Refusal;
 use tray::RunNo;
 use tray::TrayAnswer;
@@ -17,7 +17,7 @@ ghost use Prim.Native.Nat.{_≤_};
 ghost use lib.ListN.{length};
 ghost use Rattle.tray.specs.Meaning.{runsOf};
 ghost use Rattle.fold_merge.specs.Folding.{Folding};
-ghost use Rattle.fold_spec.specs.Fold.{foldSize, foldedRun, foldAnswer, leaves};
+ghost use Rattle.fold_spec.specs.Fold.{foldSize, foldedRun, foldAnswer, foldLeaves};
 ghost use Rattle.fold.specs.Write.{soundAnswer};
 
 // How many bytes the tray has with its runs a to b made one of n records.
@@ -30,16 +30,16 @@ fn folded_size(t: &[u8], f: TrayFrame, a: RunNo, b: RunNo, n: usize) -> usize
     let i = a.0;
     let k = b.0;
     let x = starts[0];
-    let y = starts[wide_size(i)];
-    let z = starts[wide_size(k) + 1];
-    4 + 2 * wide_size(h - (k - i)) + ((y - x) + 25 * n + (t.len() - z))
+    let y = starts[usize_of_u8(i)];
+    let z = starts[usize_of_u8(k) + 1];
+    4 + 2 * usize_of_u8(h - (k - i)) + ((y - x) + 25 * n + (t.len() - z))
 }
 
 // One run folded is the tray as it is: it is copied.
 fn fold_one(t: &[u8], f: TrayFrame, a: RunNo, b: RunNo, out: &mut [u8]) -> FoldAnswer
     requires { ⌜ Folding (now t) (a .0) (b .0) f × (a .0 ≡ b .0) ⌝ }
     ensures { λ r. ⌜ r ≡ soundAnswer (a .0) (b .0) (runsOf (now (t .entry))) (length (now (out .entry))) ⌝ }
-    ensures { λ r. ⌜ now (out .exit) ≡ leaves (now (t .entry)) (a .0) (b .0) (now (out .entry)) r ⌝ }
+    ensures { λ r. ⌜ now (out .exit) ≡ foldLeaves (now (t .entry)) (a .0) (b .0) (now (out .entry)) r ⌝ }
 {
     let size = t.len();
     if size <= out.len() {
@@ -53,7 +53,7 @@ fn fold_one(t: &[u8], f: TrayFrame, a: RunNo, b: RunNo, out: &mut [u8]) -> FoldA
 fn fold_runs(t: &[u8], f: TrayFrame, a: RunNo, b: RunNo, out: &mut [u8]) -> FoldAnswer
     requires { ⌜ Folding (now t) (a .0) (b .0) f ⌝ }
     ensures { λ r. ⌜ r ≡ soundAnswer (a .0) (b .0) (runsOf (now (t .entry))) (length (now (out .entry))) ⌝ }
-    ensures { λ r. ⌜ now (out .exit) ≡ leaves (now (t .entry)) (a .0) (b .0) (now (out .entry)) r ⌝ }
+    ensures { λ r. ⌜ now (out .exit) ≡ foldLeaves (now (t .entry)) (a .0) (b .0) (now (out .entry)) r ⌝ }
 {
     let mut kept = [0usize; 4096];
     let n = merge_runs(t, f, a, b, &mut kept);
@@ -72,7 +72,7 @@ fn fold_runs(t: &[u8], f: TrayFrame, a: RunNo, b: RunNo, out: &mut [u8]) -> Fold
 fn fold_sound(t: &[u8], f: TrayFrame, a: RunNo, b: RunNo, out: &mut [u8]) -> FoldAnswer
     requires { ⌜ Folding (now t) (a .0) (b .0) f ⌝ }
     ensures { λ r. ⌜ r ≡ soundAnswer (a .0) (b .0) (runsOf (now (t .entry))) (length (now (out .entry))) ⌝ }
-    ensures { λ r. ⌜ now (out .exit) ≡ leaves (now (t .entry)) (a .0) (b .0) (now (out .entry)) r ⌝ }
+    ensures { λ r. ⌜ now (out .exit) ≡ foldLeaves (now (t .entry)) (a .0) (b .0) (now (out .entry)) r ⌝ }
 {
     let i = a.0;
     let k = b.0;
@@ -85,7 +85,7 @@ fn fold_sound(t: &[u8], f: TrayFrame, a: RunNo, b: RunNo, out: &mut [u8]) -> Fol
 // Fold: the bytes written, or refusal 1, 8, 3 or 2, 12, or 7. After a refusal the output is as it was.
 pub fn fold(t: &[u8], a: RunNo, b: RunNo, out: &mut [u8]) -> FoldAnswer
     ensures { λ r. ⌜ r ≡ foldAnswer (now (t .entry)) (a .0) (b .0) (length (now (out .entry))) ⌝ }
-    ensures { λ r. ⌜ now (out .exit) ≡ leaves (now (t .entry)) (a .0) (b .0) (now (out .entry)) r ⌝ }
+    ensures { λ r. ⌜ now (out .exit) ≡ foldLeaves (now (t .entry)) (a .0) (b .0) (now (out .entry)) r ⌝ }
 {
     let f = tray_frame(t);
     let i = a.0;

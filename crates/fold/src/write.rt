@@ -1,8 +1,9 @@
 // The folded tray written: its head, and its runs with the kept records in their place. All but the kept records is copied from the tray.
 use number::big8;
+use number::copy;
 use number::put2;
 use number::put8;
-use number::wide_size;
+use number::usize_of_u8;
 use tray::RunNo;
 use tray::frame::TrayFrame;
 ghost use mathlib.Core.Path.{_≡_};
@@ -17,19 +18,6 @@ ghost use Rattle.tray.specs.Meaning.{runsOf, recordBytes, recordsBytes};
 ghost use Rattle.fold_merge.specs.Folding.{Noted, Folding};
 ghost use Rattle.fold_spec.specs.Fold.{foldedRun, foldBytes, foldSize};
 ghost use Rattle.fold.specs.Write.{headBytes, bodyBytes};
-
-// Copies a part to a place of the output.
-pub fn copy(part: &[u8], out: &mut [u8], at: usize)
-    requires { ⌜ at + length (now part) ≤ length (now out) ⌝ }
-    ensures { λ _. ⌜ now (out .exit) ≡ put (now (out .entry)) at (now (part .entry)) ⌝ }
-{
-    let n = part.len();
-    let mut i: usize = 0;
-    while i < n {
-        out[at + i] = part[i];
-        i += 1;
-    }
-}
 
 // Copies a record. It is read whole before it is written, as three numbers and a byte: byte by byte it would be slow.
 fn put_record(t: &[u8], from: usize, out: &mut [u8], at: usize)
@@ -47,7 +35,7 @@ fn put_record(t: &[u8], from: usize, out: &mut [u8], at: usize)
 }
 
 // Copies the first n kept records, back to back.
-fn put_records(t: &[u8], kept: &[usize], n: usize, out: &mut [u8], at: usize)
+fn put_kept(t: &[u8], kept: &[usize], n: usize, out: &mut [u8], at: usize)
     requires { ⌜ (n ≤ length (now kept)) × (at + 25 * n ≤ length (now out)) ⌝ }
     requires { ⌜ All (λ from. from + 25 ≤ length (now t)) (take n (now kept)) ⌝ }
     ensures { λ _. ⌜ now (out .exit) ≡ put (now (out .entry)) at (recordsBytes (map (recordFrom (now (t .entry))) (take n (now (kept .entry))))) ⌝ }
@@ -60,7 +48,7 @@ fn put_records(t: &[u8], kept: &[usize], n: usize, out: &mut [u8], at: usize)
 }
 
 // The header and the counts.
-fn put_head(t: &[u8], h: u8, a: u8, b: u8, n: u16, out: &mut [u8])
+fn put_tray_head(t: &[u8], h: u8, a: u8, b: u8, n: u16, out: &mut [u8])
     requires { ⌜ (h ≡ runCount (now t)) × (a ≤ b) × (b < h) × (4 + 2 * h ≤ length (now t)) × (4 + 2 * (h - (b - a)) ≤ length (now out)) ⌝ }
     ensures { λ _. ⌜ now (out .exit) ≡ put (now (out .entry)) 0 (headBytes (now (t .entry)) a b n) ⌝ }
 {
@@ -69,9 +57,9 @@ fn put_head(t: &[u8], h: u8, a: u8, b: u8, n: u16, out: &mut [u8])
     out[2] = 0;
     out[3] = 0;
     let start: usize = 4;
-    let x = 4 + 2 * wide_size(a);
-    let y = 6 + 2 * wide_size(b);
-    let z = 4 + 2 * wide_size(h);
+    let x = 4 + 2 * usize_of_u8(a);
+    let y = 6 + 2 * usize_of_u8(b);
+    let z = 4 + 2 * usize_of_u8(h);
     copy(&t[start..x], out, 4);
     put2(out, x, n);
     copy(&t[y..z], out, x + 2);
@@ -96,7 +84,7 @@ fn put_body(
     let end = t.len();
     let p = at + (y - x);
     copy(&t[x..y], out, at);
-    put_records(t, kept, n, out, p);
+    put_kept(t, kept, n, out, p);
     copy(&t[z..end], out, p + 25 * n);
 }
 
@@ -120,8 +108,8 @@ pub fn write_tray(
     let i = a.0;
     let k = b.0;
     let x = starts[0];
-    let y = starts[wide_size(i)];
-    let z = starts[wide_size(k) + 1];
-    put_head(t, h, i, k, n as u16, out);
-    put_body(t, x, y, z, kept, n, out, 4 + 2 * wide_size(h - (k - i)));
+    let y = starts[usize_of_u8(i)];
+    let z = starts[usize_of_u8(k) + 1];
+    put_tray_head(t, h, i, k, n as u16, out);
+    put_body(t, x, y, z, kept, n, out, 4 + 2 * usize_of_u8(h - (k - i)));
 }

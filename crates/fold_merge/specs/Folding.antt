@@ -1,5 +1,5 @@
--- The merge of a tray's runs a to b (document 01, "Folding"), as the code takes it: how far each run has been read, the merge of what is left, and
--- the records that are noted. The laws stand below. Assumes nothing.
+-- The merge of a tray's runs a to b (docs/RULES.md, "Folding"), as the code takes it: how far each run has been read, the merge of what is left, and
+-- the records that are noted. The laws stand below.
 pub mod Bound
 pub mod Draws
 pub mod Keeping

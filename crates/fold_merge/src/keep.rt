@@ -28,7 +28,7 @@ pub fn note(kept: &mut [usize], n: usize, at: usize)
     }
 }
 
-// Whether a key is new after n records of which the last has key `last`: 1, or 0. A number, since it cannot be foretold which.
+// Whether a key is new after n records of which the last has key `last`: 1, or 0. A number, since it cannot be predicted which.
 pub fn fresh(n: usize, last: u64, key: u64) -> usize
     ensures { λ r. ⌜ r ≡ cond (ltb key (newFrom n last)) 0 1 ⌝ }
     ensures { λ r. ⌜ r ≤ 1 ⌝ }

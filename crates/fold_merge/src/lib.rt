@@ -8,10 +8,10 @@ use merge::heads::advance;
 use merge::heads::fill_heads;
 use merge::lead::choose;
 use merge::lead::leader;
-use number::wide_size;
+use number::usize_of_u8;
+use number::usize_of_u16;
 use tray::RunNo;
 use tray::frame::TrayFrame;
-use tray::frame::size16;
 ghost use mathlib.Core.Path.{_≡_};
 ghost use Prim.Native.Nat.{_<_};
 ghost use lib.ListN.{length, getD};
@@ -43,8 +43,8 @@ fn take_next(
     ensures { λ _. ⌜ Heading (now (t .entry)) (now (counts .entry)) (now (starts .entry)) (now (places .exit)) (now (keys .exit)) (now (nexts .exit)) (now (tops .exit)) (now (firsts .exit)) ⌝ }
 {
     let m = r.0;
-    let i = wide_size(m);
-    note(kept, n, starts[i] + 25 * size16(places[i]));
+    let i = usize_of_u8(m);
+    note(kept, n, starts[i] + 25 * usize_of_u16(places[i]));
     advance(
         t,
         counts,
@@ -115,8 +115,8 @@ pub fn merge_runs(t: &[u8], f: TrayFrame, a: RunNo, b: RunNo, kept: &mut [usize]
     let y = b.0;
     let mut places = [0u16; 63];
     let mut keys = [18446744073709551615u64; 64];
-    skip_runs(&counts, 0, wide_size(x), &mut places);
-    skip_runs(&counts, wide_size(y) + 1, wide_size(h), &mut places);
+    skip_runs(&counts, 0, usize_of_u8(x), &mut places);
+    skip_runs(&counts, usize_of_u8(y) + 1, usize_of_u8(h), &mut places);
     let mut nexts = [0u64; 64];
     let mut tops = [0u64; 8];
     let mut firsts = [0u8; 8];

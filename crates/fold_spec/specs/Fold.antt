@@ -1,5 +1,5 @@
--- Fold a..b writes a tray in which those runs are one (document 01, "Folding": for each key in them the record of the lowest-numbered run, gone
--- ones included; other runs are copied), and its answer for every input: order 1, 8, 3/2, 12, 7. Assumes nothing.
+-- Fold a..b writes a tray in which those runs are one (docs/RULES.md, "Folding": for each key in them the record of the lowest-numbered run, gone
+-- ones included; other runs are copied), and its answer for every input: order 1, 8, 3/2, 12, 7.
 pub mod Answers
 mod Cases
 pub mod Chains
@@ -20,7 +20,7 @@ use Rattle.theory.specs.Merge.{merged, fold}
 use Rattle.tray.specs.declared.TrayAnswer.{TrayAnswer}
 use Rattle.tray.specs.declared.TrayAnswer.the-variants.{Records, Refused as TrayRefused}
 use Rattle.tray.specs.Frame.{runCount, framed}
-use Rattle.tray.specs.Check.{checkTray}
+use Rattle.tray.specs.Check.{checkTrayAnswer}
 use Rattle.tray.specs.Meaning.{runsOf, trayBytes, total}
 use Rattle.fold_spec.specs.declared.FoldAnswer.{FoldAnswer}
 use Rattle.fold_spec.specs.declared.FoldAnswer.the-variants.{Written, Refused}
@@ -58,16 +58,16 @@ afterCheck a b t room (Records n) =
 -- fold's answer
 unfoldable pub foldAnswer : List ℕ → ℕ → ℕ → ℕ → FoldAnswer
 foldAnswer t a b room =
-    let checked = afterCheck a b (runsOf t) room (checkTray t) in
+    let checked = afterCheck a b (runsOf t) room (checkTrayAnswer t) in
     cond (framed t) (cond (boundsHold (runCount t) a b) checked (Refused (Bounds b))) (Refused TrayFrame)
 
 -- what fold leaves in the output: the tray at its front where it was written, and else what was there
-unfoldable pub leaves : List ℕ → ℕ → ℕ → List ℕ → FoldAnswer → List ℕ
-leaves t a b out (Written n) = put out 0 (foldBytes a b (runsOf t))
-leaves t a b out (Refused r) = out
+unfoldable pub foldLeaves : List ℕ → ℕ → ℕ → List ℕ → FoldAnswer → List ℕ
+foldLeaves t a b out (Written n) = put out 0 (foldBytes a b (runsOf t))
+foldLeaves t a b out (Refused r) = out
 
 -- a chain of fold calls of which none is refused: each folds what the one before it wrote
 pub data Calls : List ℕ → List ℕ → Type 0 where
   no-call : {t : List ℕ} → Calls t t
   call : {t u : List ℕ} (a b n : ℕ) (out : List ℕ) → foldAnswer t a b (length out) ≡ Written n
-      → Calls (take n (leaves t a b out (Written n))) u → Calls t u
+      → Calls (take n (foldLeaves t a b out (Written n))) u → Calls t u

@@ -1,4 +1,4 @@
--- Lower-case hexadecimal (document 01, "The program `drawer`": one frame a line, lower-case hexadecimal). Assumes nothing.
+-- Lower-case hexadecimal (docs/DRAWER.md, "The program `drawer`": one frame a line, lower-case hexadecimal).
 pub mod Code
 pub mod Laws
 use Prim.Native.Nat.{ℕ, _+_, _-_, _*_, _/_, _%_}

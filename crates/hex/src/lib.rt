@@ -86,16 +86,3 @@ pub fn encode(bytes: &[u8], out: &mut [u8], at: usize)
         i += 1;
     }
 }
-
-// Bytes copied to the front of a buffer.
-pub fn copy(bytes: &[u8], to: &mut [u8])
-    requires { ⌜ length (now bytes) ≤ length (now to) ⌝ }
-    ensures { λ _. ⌜ now (to .exit) ≡ put (now (to .entry)) 0 (now (bytes .entry)) ⌝ }
-{
-    let n = bytes.len();
-    let mut i: usize = 0;
-    while i < n {
-        to[i] = bytes[i];
-        i += 1;
-    }
-}

@@ -1,4 +1,4 @@
--- Check index's answer for every input (document 01, order 1, 3/2, 4, 5), and what the table says of it. Assumes nothing.
+-- Check index's answer for every input (docs/RULES.md, "Orders": 1, 3/2, 4, 5), and what the table says of it.
 mod Cases
 pub mod Code
 pub mod Laws
@@ -13,7 +13,7 @@ use Rattle.refusal.specs.declared.Refusal.the-variants.{IndexFrame, Segment}
 use Rattle.tray.specs.declared.TrayAnswer.{TrayAnswer}
 use Rattle.tray.specs.declared.TrayAnswer.the-variants.{Records, Refused as TrayRefused}
 use Rattle.tray.specs.Frame.{runCount}
-use Rattle.tray.specs.Check.{checkTray, Sound}
+use Rattle.tray.specs.Check.{checkTrayAnswer, Sound}
 use Rattle.tray.specs.Meaning.{runsOf}
 use Rattle.index.specs.declared.IndexAnswer.{IndexAnswer}
 use Rattle.index.specs.declared.IndexAnswer.the-variants.{Segments, Refused}
@@ -44,12 +44,12 @@ afterTray t x (TrayRefused r) = Refused r
 afterTray t x (Records n) = framedIndex t x
 
 -- check index
-unfoldable pub checkIndex : List ℕ → List ℕ → IndexAnswer
-checkIndex t x = afterTray t x (checkTray t)
+unfoldable pub checkIndexAnswer : List ℕ → List ℕ → IndexAnswer
+checkIndexAnswer t x = afterTray t x (checkTrayAnswer t)
 
 -- the table's lines for check index, each exactly when
 pub data Says (t x : List ℕ) : IndexAnswer → Type 0 where
-  refused-tray : (r : Refusal) → checkTray t ≡ TrayRefused r → Says t x (Refused r)
+  refused-tray : (r : Refusal) → checkTrayAnswer t ≡ TrayRefused r → Says t x (Refused r)
   refused-4 : Sound t → (IndexFramed (runCount t) x → ⊥) → Says t x (Refused IndexFrame)
   refused-5 : (n : ℕ) → Sound t → IndexFramed (runCount t) x → FirstWrong (runsOf t) (segmentsOf (runCount t) x) n → Says t x (Refused (Segment n))
   left-over : Sound t → IndexFramed (runCount t) x → LeftOver (runsOf t) (segmentsOf (runCount t) x) → Says t x (Refused (Segment (segmentCount x)))

@@ -1,5 +1,5 @@
--- Where things lie in an index (document 01, "The index"): byte 0 is H, byte 1 the segment size D, bytes 2 and 3 zero, bytes 4 to 7 the
--- segment count S; then S segments, each an anchor key (8), H offsets (2 each) and D selectors. Assumes nothing.
+-- Where things lie in an index (docs/FORMAT.md, "The index"): byte 0 is H, byte 1 the segment size D, bytes 2 and 3 zero, bytes 4 to 7 the
+-- segment count S; then S segments, each an anchor key (8), H offsets (2 each) and D selectors.
 pub mod Code
 pub mod Laws
 use Prim.Native.Nat.{ℕ, _+_, _*_, _≤_}

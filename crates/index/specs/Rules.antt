@@ -1,5 +1,5 @@
--- When a segment is right and an index accepted (document 01, "The index", the five rules in its words). Segments are judged from 0 on:
--- `before` are the records of the view in earlier segments, `own` the segment's own, `after` what is left. Assumes nothing.
+-- When a segment is right and an index accepted (docs/RULES.md, "The index", the five rules in its words). Segments are judged from 0 on:
+-- `before` are the records of the view in earlier segments, `own` the segment's own, `after` what is left.
 mod Cases
 pub mod Cuts
 pub mod Laws
@@ -68,7 +68,7 @@ module _ (t : List (List Record)) where
     pub anchor : Anchored s own
     pub keys : KeysWhole own after
 
-  -- segments that are right one after the other: after the records `b`, with `w` left, they leave the records `b′` behind them and `w′` over
+  -- segments that are right one after the other: after the records `b`, with `w` left, they leave the records `b′` passed and `w′` over
   pub data Follows : List Segment → List Item → List Item → List Item → List Item → Type 0 where
     here : {b w : List Item} → Follows [] b w b w
     next : {s : Segment} {ss : List Segment} {b own w v b′ w′ : List Item}

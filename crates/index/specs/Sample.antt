@@ -1,5 +1,5 @@
--- The index of the sample tray for segments of 4 (document 01, the second line of the sample output), for worked cases: one segment, whose
--- selectors 00 81 01 3f are bytes 20 to 23. Assumes nothing.
+-- The index of the sample tray for segments of 4 (docs/DRAWER.md, "Try it": the second line of the output), for worked cases: one segment, whose
+-- selectors 00 81 01 3f are bytes 20 to 23.
 use Prim.Native.Nat.{ℕ}
 use mathlib.Core.List.{List, [], _∷_}
 

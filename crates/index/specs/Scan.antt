@@ -1,6 +1,6 @@
 -- The check of an index as arithmetic, in one pass and with no merge: what is read in order from each run, rises strictly by key and then run,
 -- and at each segment's end stays below every run's next key, is the view (`Scan/Laws`). The state is how far each run has been read: a list
--- of places. Assumes nothing.
+-- of places.
 pub mod All
 pub mod Code
 pub mod Entry

@@ -1,7 +1,7 @@
 // The frame of an index, and where its segments lie.
 use crate::SegmentNo;
 use number::big4;
-use number::wide_size;
+use number::usize_of_u8;
 ghost use mathlib.Core.Path.{_≡_};
 ghost use Rattle.index.specs.Layout.{segmentAt};
 ghost use Rattle.index.specs.Layout.Code.{indexFrame};
@@ -17,7 +17,7 @@ pub fn segment_at(g: SegmentNo, h: u8, d: u8) -> usize
     ensures { λ r. ⌜ r ≡ segmentAt h d (g .0) ⌝ }
 {
     let n = g.0;
-    8 + (n as usize) * (8 + 2 * wide_size(h) + wide_size(d))
+    8 + (n as usize) * (8 + 2 * usize_of_u8(h) + usize_of_u8(d))
 }
 
 // The frame of any bytes, for a tray of h runs.

@@ -1,8 +1,8 @@
-// Check index: whether an index follows the rules for its tray (document 01, "The index").
+// Check index: whether an index follows the rules for its tray (docs/RULES.md, "The index").
 pub mod segment;
 pub mod selector;
 
-use crate::segment::segment;
+use crate::segment::check_segment;
 use crate::segment::used_up;
 use index::IndexAnswer;
 use index::SegmentNo;
@@ -16,7 +16,7 @@ use tray::frame::tray_frame;
 use tray_check::check_tray;
 ghost use mathlib.Core.Path.{_≡_};
 ghost use Rattle.tray.specs.Frame.{Opened};
-ghost use Rattle.index.specs.Check.{framedIndex, judgeIndex, checkIndex};
+ghost use Rattle.index.specs.Check.{framedIndex, judgeIndex, checkIndexAnswer};
 ghost use Rattle.index.specs.Layout.Code.{Laid};
 
 // The segments judged from 0 on, for a tray and an index whose frames fit.
@@ -32,7 +32,7 @@ fn check_segments(t: &[u8], x: &[u8], f: TrayFrame, d: u8, n: u32) -> IndexAnswe
     let mut g: u32 = 0;
     while g < n {
         let at = segment_at(SegmentNo(g), h, d);
-        if segment(t, x, h, d, at, &counts, &starts, &mut places) {
+        if check_segment(t, x, h, d, at, &counts, &starts, &mut places) {
             g += 1;
             continue;
         }
@@ -57,7 +57,7 @@ fn judge_index(t: &[u8], x: &[u8], f: TrayFrame) -> IndexAnswer
 
 // Check index: the segments, or refusal 1, 3 or 2 of the tray, 4, or 5 at the first wrong segment.
 pub fn check_index(t: &[u8], x: &[u8]) -> IndexAnswer
-    ensures { λ r. ⌜ r ≡ checkIndex (now (t .entry)) (now (x .entry)) ⌝ }
+    ensures { λ r. ⌜ r ≡ checkIndexAnswer (now (t .entry)) (now (x .entry)) ⌝ }
 {
     match check_tray(t) {
         TrayAnswer::Refused(r) => IndexAnswer::Refused(r),

@@ -1,12 +1,12 @@
 // The check of an index's segments in one pass, about one key comparison a record and no merge.
-use crate::selector::head_of;
 use crate::selector::may_begin;
 use crate::selector::may_follow;
 use number::big2;
 use number::big8;
-use number::wide_size;
+use number::usize_of_u8;
 use tray::Place;
 use tray::RunNo;
+use tray::run::head_of;
 ghost use mathlib.Core.Path.{_≡_};
 ghost use Prim.Native.Nat.{_+_, _*_, _-_, _≤_, _<_};
 ghost use lib.ListN.{length};
@@ -20,7 +20,7 @@ fn offsets_hold(x: &[u8], at: usize, h: u8, places: &[u16]) -> bool
     requires { ⌜ h ≤ length (now places) ⌝ }
     ensures { λ r. ⌜ r ≡ offsetsHold (now (x .entry)) at (now (places .entry)) h ⌝ }
 {
-    let mut r = wide_size(h);
+    let mut r = usize_of_u8(h);
     while 0 < r {
         r -= 1;
         if big2(x, at + 8 + 2 * r) == places[r] {
@@ -61,7 +61,7 @@ fn head_above(
     ensures { λ b. ⌜ b ≡ aboveIn (now (t .entry)) (now (places .entry)) last (r .0) ⌝ }
 {
     let n = r.0;
-    let i = wide_size(n);
+    let i = usize_of_u8(n);
     let p = places[i];
     if p < counts[i] {
         let e = head_of(t, starts, RunNo(n), Place(p));
@@ -92,7 +92,7 @@ pub fn used_up(counts: &[u16], places: &[u16], h: u8) -> bool
     requires { ⌜ (h ≤ length (now counts)) × (h ≤ length (now places)) ⌝ }
     ensures { λ b. ⌜ b ≡ sameTo (now (places .entry)) (now (counts .entry)) h ⌝ }
 {
-    let mut r = wide_size(h);
+    let mut r = usize_of_u8(h);
     while 0 < r {
         r -= 1;
         if places[r] == counts[r] {
@@ -110,7 +110,7 @@ struct Steps {
 }
 
 // One selector after a record with key `last` of run `before`: where it may follow, its record is read.
-fn step(
+fn check_next(
     t: &[u8],
     h: u8,
     counts: &[u16],
@@ -126,7 +126,7 @@ fn step(
 {
     let r = v % 64;
     if r < h {
-        let i = wide_size(r);
+        let i = usize_of_u8(r);
         let p = places[i];
         if p < counts[i] {
             let e = head_of(t, starts, RunNo(r), Place(p));
@@ -146,7 +146,7 @@ fn step(
 }
 
 // The first selector of a segment: where it may begin and its record has the anchor's key, the record is read.
-fn begin(
+fn check_first(
     t: &[u8],
     h: u8,
     counts: &[u16],
@@ -161,7 +161,7 @@ fn begin(
 {
     let r = v % 64;
     if r < h {
-        let i = wide_size(r);
+        let i = usize_of_u8(r);
         let p = places[i];
         if p < counts[i] {
             let e = head_of(t, starts, RunNo(r), Place(p));
@@ -184,7 +184,7 @@ fn begin(
 }
 
 // The selectors of a stretch, after a record with key `first` of run `first_run`.
-fn follow(
+fn check_following(
     t: &[u8],
     x: &[u8],
     h: u8,
@@ -212,7 +212,7 @@ fn follow(
                 last,
             };
         }
-        let s = step(t, h, counts, starts, places, v, last, before);
+        let s = check_next(t, h, counts, starts, places, v, last, before);
         let right = s.right;
         if right {
             last = s.last;
@@ -226,7 +226,7 @@ fn follow(
 }
 
 // The selectors of a segment: the first one, those that follow, and at their end every run's next key above the last one.
-fn selectors(
+fn check_selectors(
     t: &[u8],
     x: &[u8],
     h: u8,
@@ -243,10 +243,10 @@ fn selectors(
     ensures { λ r. ⌜ told r (now (places .exit)) ≡ selectorsScan (now (t .entry)) h (now (x .entry)) (to - from) anchor from (now (places .entry)) ⌝ }
 {
     let v = x[from];
-    let s = begin(t, h, counts, starts, places, v, anchor);
+    let s = check_first(t, h, counts, starts, places, v, anchor);
     let right = s.right;
     if right {
-        let w = follow(
+        let w = check_following(
             t,
             x,
             h,
@@ -267,7 +267,7 @@ fn selectors(
 }
 
 // One segment of d, from the byte where it starts.
-pub fn segment(
+pub fn check_segment(
     t: &[u8],
     x: &[u8],
     h: u8,
@@ -283,15 +283,15 @@ pub fn segment(
     ensures { λ r. ⌜ told r (now (places .exit)) ≡ segmentScan (now (t .entry)) h (now (x .entry)) d at (now (places .entry)) ⌝ }
 {
     if offsets_hold(x, at, h, places) {
-        let from = at + 8 + 2 * wide_size(h);
-        return selectors(
+        let from = at + 8 + 2 * usize_of_u8(h);
+        return check_selectors(
             t,
             x,
             h,
             counts,
             starts,
             from,
-            from + wide_size(d),
+            from + usize_of_u8(d),
             big8(x, at),
             places,
         );

@@ -2,7 +2,6 @@
 --     tray-.., index-.., build-.., get-.., sheet-.., fold-..     by the call
 --     sought-.., seek-is, next-is                                seek and next
 --     page-..                                                    page
--- Assumes nothing.
 pub mod Narrow
 use mathlib.Core.Path.{_≡_, refl, sym, ap, ap₂, _∙_}
 use Prim.Native.Nat.{ℕ}
@@ -14,24 +13,24 @@ use Rattle.tray.specs.declared.RunNo.{RunNo}
 use Rattle.tray.specs.declared.Place.{Place}
 use Rattle.tray.specs.declared.TrayAnswer.{TrayAnswer}
 use Rattle.tray.specs.declared.TrayAnswer.the-variants.{Records, Refused as TrayRefused}
-use Rattle.tray.specs.Check.{checkTray}
+use Rattle.tray.specs.Check.{checkTrayAnswer}
 use Rattle.index.specs.declared.IndexAnswer.{IndexAnswer}
 use Rattle.index.specs.declared.IndexAnswer.the-variants.{Segments, Refused as IndexRefused}
-use Rattle.index.specs.Check.{checkIndex}
+use Rattle.index.specs.Check.{checkIndexAnswer}
 use Rattle.build_spec.specs.declared.BuildAnswer.{BuildAnswer}
 use Rattle.build_spec.specs.declared.BuildAnswer.the-variants.{Written as BuildWritten, Refused as BuildRefused}
-use Rattle.build_spec.specs.Build.{build, leaves}
+use Rattle.build_spec.specs.Build.{buildAnswer, buildLeaves}
 use Rattle.fold_spec.specs.declared.FoldAnswer.{FoldAnswer}
 use Rattle.fold_spec.specs.declared.FoldAnswer.the-variants.{Written as FoldWritten, Refused as FoldRefused}
-use Rattle.fold_spec.specs.Fold.{foldAnswer, leaves as foldLeaves}
-use Rattle.walk.specs.declared.Gets.{Gets}
-use Rattle.walk.specs.declared.GetAnswer.{GetAnswer}
-use Rattle.walk.specs.declared.GetAnswer.the-variants.{Found as GetFound, Absent, Refused as GetRefused}
-use Rattle.walk.specs.declared.SeekAnswer.{SeekAnswer}
-use Rattle.walk.specs.declared.SeekAnswer.the-variants.{Found, End, Refused}
-use Rattle.walk.specs.declared.Seeks.{Seeks}
-use Rattle.walk.specs.Answers.{getAnswer}
-use Rattle.answers.specs.declared.Pages.{Pages}
+use Rattle.fold_spec.specs.Fold.{foldAnswer, foldLeaves}
+use Rattle.answers.specs.declared.ValueAnswer.{ValueAnswer}
+use Rattle.answers.specs.declared.GetAnswer.{GetAnswer}
+use Rattle.answers.specs.declared.GetAnswer.the-variants.{Found as GetFound, Absent, Refused as GetRefused}
+use Rattle.answers.specs.declared.SeekAnswer.{SeekAnswer}
+use Rattle.answers.specs.declared.SeekAnswer.the-variants.{Found, End, Refused}
+use Rattle.answers.specs.declared.CursorAnswer.{CursorAnswer}
+use Rattle.answers.specs.Get.{getAnswer}
+use Rattle.answers.specs.declared.PagedAnswer.{PagedAnswer}
 use Rattle.answers.specs.declared.PageAnswer.{PageAnswer}
 use Rattle.answers.specs.declared.PageAnswer.the-variants.{More, End as PageEnd, Refused as PageRefused}
 use Rattle.answers.specs.declared.SheetAnswer.{SheetAnswer}
@@ -42,38 +41,38 @@ use Rattle.theorems.specs.Cursors.{cursorNumbers}
 use Rattle.kanyorith.specs.Promises.{CheckTray, CheckIndex, Build, valueLeft, Get, runLeft, placeLeft, cursorLeft, Sought, pageCursorLeft, Paging, Sheet, Fold}
 use Rattle.theorems.specs.Wide.{narrowed, owned, build-owned, build-left, fold-owned, fold-left}
 
-pub tray-records : {t : List ℕ} {a : TrayAnswer} {n : ℕ} → a ≡ Records n → a ≡ checkTray t → CheckTray t 0 n
+pub tray-records : {t : List ℕ} {a : TrayAnswer} {n : ℕ} → a ≡ Records n → a ≡ checkTrayAnswer t → CheckTray t 0 n
 unfolding trayTold
 tray-records e is = record { answers = ap trayTold (sym e ∙ is) }
 
-pub tray-refused : {t : List ℕ} {a : TrayAnswer} {r : Refusal} {n f : ℕ} → a ≡ TrayRefused r → a ≡ checkTray t → told n f ≡ verdictOf r → CheckTray t n f
+pub tray-refused : {t : List ℕ} {a : TrayAnswer} {r : Refusal} {n f : ℕ} → a ≡ TrayRefused r → a ≡ checkTrayAnswer t → told n f ≡ verdictOf r → CheckTray t n f
 unfolding trayTold
 tray-refused e is v = record { answers = v ∙ ap trayTold (sym e ∙ is) }
 
-pub index-segments : {t x : List ℕ} {a : IndexAnswer} {n : ℕ} → a ≡ Segments n → a ≡ checkIndex t x → CheckIndex t x 0 n
+pub index-segments : {t x : List ℕ} {a : IndexAnswer} {n : ℕ} → a ≡ Segments n → a ≡ checkIndexAnswer t x → CheckIndex t x 0 n
 unfolding indexTold
 index-segments e is = record { answers = ap indexTold (sym e ∙ is) }
 
-pub index-refused : {t x : List ℕ} {a : IndexAnswer} {r : Refusal} {n f : ℕ} → a ≡ IndexRefused r → a ≡ checkIndex t x → told n f ≡ verdictOf r → CheckIndex t x n f
+pub index-refused : {t x : List ℕ} {a : IndexAnswer} {r : Refusal} {n f : ℕ} → a ≡ IndexRefused r → a ≡ checkIndexAnswer t x → told n f ≡ verdictOf r → CheckIndex t x n f
 unfolding indexTold
 index-refused e is v = record { answers = v ∙ ap indexTold (sym e ∙ is) }
 
 -- build, with a wide D
 module _ (t : List ℕ) (d : ℕ) (out : List ℕ) where
-  build-leaves : {left : List ℕ} {a : BuildAnswer} {e : ℕ} → e ≡ narrowed d → a ≡ build t e (length out) → left ≡ leaves t e out a
-      → left ≡ leaves t d out (build t d (length out))
+  build-leaves : {left : List ℕ} {a : BuildAnswer} {e : ℕ} → e ≡ narrowed d → a ≡ buildAnswer t e (length out) → left ≡ buildLeaves t e out a
+      → left ≡ buildLeaves t d out (buildAnswer t d (length out))
   build-leaves {e = e} n is l =
-      l ∙ ap (leaves t e out) is ∙ ap (λ (k : ℕ). leaves t k out (build t k (length out))) n ∙ sym (build-left t d (length out) out)
+      l ∙ ap (buildLeaves t e out) is ∙ ap (λ (k : ℕ). buildLeaves t k out (buildAnswer t k (length out))) n ∙ sym (build-left t d (length out) out)
 
-  build-told : {a b : BuildAnswer} {e : ℕ} → e ≡ narrowed d → a ≡ build t e (length out) → a ≡ b → owned 6 d (buildTold b) ≡ buildTold (build t d (length out))
-  build-told n is g = ap (λ (b : BuildAnswer). owned 6 d (buildTold b)) (sym g ∙ is ∙ ap (λ (k : ℕ). build t k (length out)) n) ∙ sym (build-owned t d (length out))
+  build-told : {a b : BuildAnswer} {e : ℕ} → e ≡ narrowed d → a ≡ buildAnswer t e (length out) → a ≡ b → owned 6 d (buildTold b) ≡ buildTold (buildAnswer t d (length out))
+  build-told n is g = ap (λ (b : BuildAnswer). owned 6 d (buildTold b)) (sym g ∙ is ∙ ap (λ (k : ℕ). buildAnswer t k (length out)) n) ∙ sym (build-owned t d (length out))
 
-  pub build-wrote : {left : List ℕ} {a : BuildAnswer} {e k : ℕ} → e ≡ narrowed d → a ≡ build t e (length out) → left ≡ leaves t e out a → a ≡ BuildWritten k
+  pub build-wrote : {left : List ℕ} {a : BuildAnswer} {e k : ℕ} → e ≡ narrowed d → a ≡ buildAnswer t e (length out) → left ≡ buildLeaves t e out a → a ≡ BuildWritten k
       → Build t d out 0 k left
   unfolding buildTold owned
   build-wrote n is l g = record { answers = build-told n is g; leaving = build-leaves n is l }
 
-  pub build-refused : {left : List ℕ} {a : BuildAnswer} {e k f : ℕ} {r : Refusal} → e ≡ narrowed d → a ≡ build t e (length out) → left ≡ leaves t e out a
+  pub build-refused : {left : List ℕ} {a : BuildAnswer} {e k f : ℕ} {r : Refusal} → e ≡ narrowed d → a ≡ buildAnswer t e (length out) → left ≡ buildLeaves t e out a
       → a ≡ BuildRefused r → told k f ≡ owned 6 d (verdictOf r) → Build t d out k f left
   unfolding buildTold
   build-refused n is l g v = record { answers = v ∙ build-told n is g; leaving = build-leaves n is l }
@@ -106,22 +105,22 @@ module _ (t : List ℕ) (a b : ℕ) (out : List ℕ) where
 
 -- get
 module _ (t x key was : List ℕ) where
-  got : {g : Gets} {a : GetAnswer} → g ≡ getAnswer t x key → g .answer ≡ a → getTold a ≡ getTold (getAnswer t x key .answer)
-  got is e = ap getTold (sym e) ∙ ap (λ (h : Gets). getTold (h .answer)) is
+  got : {g : ValueAnswer} {a : GetAnswer} → g ≡ getAnswer t x key → g .answer ≡ a → getTold a ≡ getTold (getAnswer t x key .answer)
+  got is e = ap getTold (sym e) ∙ ap (λ (h : ValueAnswer). getTold (h .answer)) is
 
-  left-by : {g : Gets} {a : GetAnswer} → g ≡ getAnswer t x key → g .answer ≡ a
+  left-by : {g : ValueAnswer} {a : GetAnswer} → g ≡ getAnswer t x key → g .answer ≡ a
       → valueLeft a (g .value) was ≡ valueLeft (getAnswer t x key .answer) (getAnswer t x key .value) was
-  left-by {g} is e = ap (λ (a : GetAnswer). valueLeft a (g .value) was) (sym e) ∙ ap (λ (h : Gets). valueLeft (h .answer) (h .value) was) is
+  left-by {g} is e = ap (λ (a : GetAnswer). valueLeft a (g .value) was) (sym e) ∙ ap (λ (h : ValueAnswer). valueLeft (h .answer) (h .value) was) is
 
-  pub get-found : {g : Gets} → g ≡ getAnswer t x key → g .answer ≡ GetFound → Get t x key was 0 1 (g .value)
+  pub get-found : {g : ValueAnswer} → g ≡ getAnswer t x key → g .answer ≡ GetFound → Get t x key was 0 1 (g .value)
   unfolding getTold valueLeft
   get-found is e = record { answers = got is e; leaving = left-by is e }
 
-  pub get-absent : {g : Gets} → g ≡ getAnswer t x key → g .answer ≡ Absent → Get t x key was 0 0 was
+  pub get-absent : {g : ValueAnswer} → g ≡ getAnswer t x key → g .answer ≡ Absent → Get t x key was 0 0 was
   unfolding getTold valueLeft
   get-absent is e = record { answers = got is e; leaving = left-by is e }
 
-  pub get-refused : {g : Gets} {r : Refusal} {n f : ℕ} → g ≡ getAnswer t x key → g .answer ≡ GetRefused r → told n f ≡ verdictOf r → Get t x key was n f was
+  pub get-refused : {g : ValueAnswer} {r : Refusal} {n f : ℕ} → g ≡ getAnswer t x key → g .answer ≡ GetRefused r → told n f ≡ verdictOf r → Get t x key was n f was
   unfolding getTold valueLeft
   get-refused is e v = record { answers = v ∙ got is e; leaving = left-by is e }
 
@@ -136,7 +135,7 @@ module _ (t x prefix out : List ℕ) {left : List ℕ} {a : SheetAnswer} (is : a
   sheet-refused e v = record { answers = v ∙ ap sheetTold (sym e ∙ is); leaving = l ∙ ap (sheetLeaves t x prefix out) is }
 
 -- seek and next
-module _ {s : Seeks} {run place : ℕ} {cursor : List ℕ} where
+module _ {s : CursorAnswer} {run place : ℕ} {cursor : List ℕ} where
   pub sought-found : {n : RunNo} {p : Place} {cursor′ : List ℕ} → s .answer ≡ Found n p → cursor′ ≡ cursorNumbers (s .cursor)
       → Sought s run place cursor 0 1 (n .0) (p .0) cursor′
   unfolding seekTold runLeft placeLeft cursorLeft
@@ -169,8 +168,8 @@ module _ {s : Seeks} {run place : ℕ} {cursor : List ℕ} where
       }
 
 -- page
-module _ {p : Pages} {leaves cursor left : List ℕ} (l : left ≡ leaves) where
-  pub page-more : {cursor′ : List ℕ} → p .answer ≡ More → cursor′ ≡ cursorNumbers (p .cursor) → Paging p leaves cursor 0 1 (p .count) cursor′ left
+module _ {p : PagedAnswer} {buildLeaves cursor left : List ℕ} (l : left ≡ buildLeaves) where
+  pub page-more : {cursor′ : List ℕ} → p .answer ≡ More → cursor′ ≡ cursorNumbers (p .cursor) → Paging p buildLeaves cursor 0 1 (p .count) cursor′ left
   unfolding pageTold pageCursorLeft
   page-more e c =
       record {
@@ -180,7 +179,7 @@ module _ {p : Pages} {leaves cursor left : List ℕ} (l : left ≡ leaves) where
         leaving = l;
       }
 
-  pub page-end : {cursor′ : List ℕ} → p .answer ≡ PageEnd → cursor′ ≡ cursorNumbers (p .cursor) → Paging p leaves cursor 0 0 (p .count) cursor′ left
+  pub page-end : {cursor′ : List ℕ} → p .answer ≡ PageEnd → cursor′ ≡ cursorNumbers (p .cursor) → Paging p buildLeaves cursor 0 0 (p .count) cursor′ left
   unfolding pageTold pageCursorLeft
   page-end e c =
       record {
@@ -190,7 +189,7 @@ module _ {p : Pages} {leaves cursor left : List ℕ} (l : left ≡ leaves) where
         leaving = l;
       }
 
-  pub page-refused : {r : Refusal} {n f : ℕ} → p .answer ≡ PageRefused r → told n f ≡ verdictOf r → Paging p leaves cursor n f (p .count) cursor left
+  pub page-refused : {r : Refusal} {n f : ℕ} → p .answer ≡ PageRefused r → told n f ≡ verdictOf r → Paging p buildLeaves cursor n f (p .count) cursor left
   unfolding pageTold pageCursorLeft
   page-refused e v =
       record {

@@ -3,7 +3,6 @@
 --     sound-tray                   check tray accepts
 --     Unchanged, unchanged         what stands before and after a chain
 --     whole-says                   what folding everything at once says of the length
--- Assumes nothing.
 use mathlib.Core.Path.{_≡_, refl, sym, ap, _∙_, subst}
 use Prim.Native.Nat.{ℕ, _-_, _≤_, _<_}
 use native.Mathlib.Omega.{arith}
@@ -15,10 +14,10 @@ use Rattle.number.specs.Big.{Bytes}
 use Rattle.refusal.specs.declared.Verdict.{Verdict}
 use Rattle.theory.specs.Tests.{cases, never}
 use Rattle.tray.specs.Frame.{runCount}
-use Rattle.tray.specs.Check.{checkTray, Sound}
+use Rattle.tray.specs.Check.{checkTrayAnswer, Sound}
 use Rattle.tray.specs.Check.Theorems.{answers-records}
 use Rattle.tray.specs.Meaning.{runsOf}
-use Rattle.fold_spec.specs.Fold.{foldedRun, foldAnswer, leaves, Calls, no-call, call}
+use Rattle.fold_spec.specs.Fold.{foldedRun, foldAnswer, foldLeaves, Calls, no-call, call}
 use Rattle.fold_spec.specs.Fold.Laws.{InBounds}
 use Rattle.theorems.specs.Unchanged.{Folded}
 use Rattle.theorems.specs.Told.Laws.{tray-zero, index-zero, fold-zero}
@@ -35,11 +34,11 @@ pub folds-calls : {t u : List ℕ} → Folds t u → Calls t u
 folds-calls no-fold = no-call
 folds-calls {u = u} (one-fold {t} {out} {left} {a = a} {b} {n} f rest) =
     let e = fold-zero (foldAnswer t a b (length out)) (f .answers) in
-    call a b n out e (subst (λ (l : List ℕ). Calls (take n l) u) (f .leaving ∙ ap (leaves t a b out) e) (folds-calls rest))
+    call a b n out e (subst (λ (l : List ℕ). Calls (take n l) u) (f .leaving ∙ ap (foldLeaves t a b out) e) (folds-calls rest))
 
 -- check tray accepts a sound tray
 pub sound-tray : {t : List ℕ} {n : ℕ} → CheckTray t 0 n → Sound t
-sound-tray {t} {n} c = answers-records t n .0 (tray-zero (checkTray t) (c .answers)) .0
+sound-tray {t} {n} c = answers-records t n .0 (tray-zero (checkTrayAnswer t) (c .answers)) .0
 
 -- a sound tray t, what a chain makes of it, u, and accepted indexes of both
 pub record Unchanged (t x u y : List ℕ) : Type 0 where

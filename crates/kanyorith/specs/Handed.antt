@@ -1,6 +1,5 @@
 -- The cursor that seek, next or page hands back belongs to the same tray and index, whatever the index says, unless the call is refused.
 --     seek-belongs, next-belongs, page-belongs
--- Assumes nothing.
 use mathlib.Core.Path.{_≡_, ap, _∙_}
 use mathlib.Core.Logic.{inl, inr}
 use Prim.Native.Nat.{ℕ}
@@ -13,13 +12,13 @@ use Rattle.refusal.specs.Table.{told, verdictOf}
 use Rattle.tray.specs.declared.Place.{Place}
 use Rattle.tray.specs.Frame.{runCount}
 use Rattle.walk.specs.declared.cursor.Cursor.{Cursor}
-use Rattle.walk.specs.declared.Seeks.{Seeks}
-use Rattle.walk.specs.declared.SeekAnswer.{SeekAnswer}
-use Rattle.walk.specs.declared.SeekAnswer.the-variants.{Refused}
+use Rattle.answers.specs.declared.CursorAnswer.{CursorAnswer}
+use Rattle.answers.specs.declared.SeekAnswer.{SeekAnswer}
+use Rattle.answers.specs.declared.SeekAnswer.the-variants.{Refused}
 use Rattle.walk.specs.Reads.{belongs}
 use Rattle.walk.specs.Code.{spotOf}
-use Rattle.walk.specs.Answers.{cursorOf}
-use Rattle.walk.specs.Answers.Hands.{Belonging, Hands, seek-hands}
+use Rattle.answers.specs.Quick.{cursorOf}
+use Rattle.answers.specs.Seek.Hands.{Belonging, Hands, seek-hands}
 use Rattle.answers.specs.Next.Hands.{next-hands}
 use Rattle.answers.specs.declared.PageAnswer.{PageAnswer}
 use Rattle.answers.specs.declared.PageAnswer.the-variants.{Refused as PageRefused}
@@ -39,7 +38,7 @@ page-refused : {f : ℕ} (a : PageAnswer) {r : Refusal} → a ≡ PageRefused r 
 unfolding pageTold
 page-refused a e t = t ∙ ap pageTold e
 
-sought-belongs : (t x c : List ℕ) {a : Seeks} {run place f r p : ℕ} {k : List ℕ} → Hands t x a → Sought a run place c 0 f r p k
+sought-belongs : (t x c : List ℕ) {a : CursorAnswer} {run place f r p : ℕ} {k : List ℕ} → Hands t x a → Sought a run place c 0 f r p k
     → belongs (runCount t) x (spotOf (cursorIn k)) ≡ true
 unfolding Hands Belonging
 sought-belongs t x c {a} (inl w) s = not-zero (w .0) (seek-refused (a .answer) (w .1) (s .answers))

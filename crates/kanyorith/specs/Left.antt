@@ -3,7 +3,6 @@
 --     refused-page         a page that is refused by another number than 10 has written nothing
 --     page-filled          a page that stays at a record has less than 24 bytes left
 --     listed-behind        sheet leaves its listing in front, and past it what was there
--- Assumes nothing.
 use mathlib.Core.Path.{_≡_, refl, sym, ap, _∙_}
 use Prim.Native.Nat.{ℕ, _+_, _*_, _≤_, _<_, zero-le}
 use native.Mathlib.Nat.{zero-add}
@@ -25,8 +24,8 @@ use Rattle.walk.specs.Walk.{Spot, Walked, stayed, ended, lost}
 use Rattle.walk.specs.Reads.{Written, belongs, page, sheet}
 use Rattle.walk.specs.Reads.Page.{listing, length-listing}
 use Rattle.walk.specs.Code.{spotOf}
-use Rattle.walk.specs.Answers.{inFrames}
-use Rattle.answers.specs.declared.Pages.{Pages}
+use Rattle.answers.specs.Quick.{inFrames}
+use Rattle.answers.specs.declared.PagedAnswer.{PagedAnswer}
 use Rattle.answers.specs.Page.{refusedPage, pageTold as pageBy, pageLeft, pageFramed, leftFramed, pageAnswer, pageLeaves}
 use Rattle.answers.specs.Sheet.{recordsOf, sheetAnswer, sheetLeaves}
 use Rattle.theorems.specs.Told.{pageTold, sheetTold}
@@ -36,7 +35,7 @@ use Rattle.kanyorith.specs.Walks.{Ends, at-stay, at-end, at-loss, Kept, 
 
 module _ (t x : List ℕ) (c : Cursor) (out : List ℕ) where
   -- a page is refused before it walks, or it walks
-  data Path : Pages → List ℕ → Type 0 where
+  data Path : PagedAnswer → List ℕ → Type 0 where
     at-once : (r : Refusal) → Path (refusedPage c r) out
     walks : Path (pageBy x c (page t x (spotOf c) out)) (pageLeft (page t x (spotOf c) out))
 
@@ -53,8 +52,8 @@ module _ (t x : List ℕ) (c : Cursor) (out : List ℕ) where
       go true true false = at-once (NotBelonging (c .segment .0))
       go true true true = walks
 
-  -- what is written, and what stands behind it
-  pub record Holds (p : Pages) (left : List ℕ) : Type 0 where
+  -- what is written, and what stands after it
+  pub record Holds (p : PagedAnswer) (left : List ℕ) : Type 0 where
     pub fits : 24 * p .count ≤ length out
     pub long : length left ≡ length out
     pub behind : drop (24 * p .count) left ≡ drop (24 * p .count) out
@@ -65,7 +64,7 @@ module _ (t x : List ℕ) (c : Cursor) (out : List ℕ) where
   walked-holds (at-end k) = record { fits = k .fits; long = k .long; behind = k .behind }
   walked-holds (at-loss k) = record { fits = k .fits; long = k .long; behind = k .behind }
 
-  path-holds : {p : Pages} {left : List ℕ} → Path p left → Holds p left
+  path-holds : {p : PagedAnswer} {left : List ℕ} → Path p left → Holds p left
   path-holds (at-once r) = record { fits = zero-le; long = refl; behind = refl }
   path-holds walks = walked-holds (page-holds t x (spotOf c) out)
 
@@ -80,7 +79,7 @@ module _ (t x : List ℕ) (c : Cursor) (out : List ℕ) where
   walked-refused (ended w) {n} e l off = let z : n ≡ 0 = ap (λ (v : Verdict). v .number) e in absurd (omega arith)
   walked-refused (lost g s w) e l off = absurd (off (ap (λ (v : Verdict). v .number) e))
 
-  path-refused : {p : Pages} {left : List ℕ} {n f : ℕ} → Path p left → told n f ≡ pageTold (p .answer) → 0 < n → (n ≡ 10 → ⊥) → (p .count ≡ 0) × (left ≡ out)
+  path-refused : {p : PagedAnswer} {left : List ℕ} {n f : ℕ} → Path p left → told n f ≡ pageTold (p .answer) → 0 < n → (n ≡ 10 → ⊥) → (p .count ≡ 0) × (left ≡ out)
   path-refused (at-once r) e l off = (refl, refl)
   path-refused walks e l off = walked-refused (page t x (spotOf c) out) e l off
 
@@ -96,7 +95,7 @@ module _ (t x : List ℕ) (c : Cursor) (out : List ℕ) where
   walked-filled (at-end k) e = let z : _≡_ {A = ℕ} 1 0 = ap (λ (v : Verdict). v .figure) e in absurd (omega arith)
   walked-filled (at-loss k) e = let z : _≡_ {A = ℕ} 0 10 = ap (λ (v : Verdict). v .number) e in absurd (omega arith)
 
-  path-filled : {p : Pages} {left : List ℕ} → Path p left → told 0 1 ≡ pageTold (p .answer) → length out < 24 * p .count + 24
+  path-filled : {p : PagedAnswer} {left : List ℕ} → Path p left → told 0 1 ≡ pageTold (p .answer) → length out < 24 * p .count + 24
   unfolding pageTold
   path-filled (at-once r) e = let l = refused-above r in let z : 0 ≡ verdictOf r .number = ap (λ (v : Verdict). v .number) e in absurd (omega arith)
   path-filled walks e = walked-filled (page-holds t x (spotOf c) out) e

@@ -1,25 +1,26 @@
 -- What each public call promises: which number and figure it answers, and what stands in each of its outputs afterwards, for every input, by one
--- definition of the answer for each call. An output that a call does not write is as it was. Assumes nothing.
+-- definition of the answer for each call. An output that a call does not write is as it was.
 use Prim.Native.Nat.{ℕ}
 use mathlib.Core.Path.{_≡_}
 use mathlib.Core.List.{List}
 use lib.ListN.{length}
 use Rattle.refusal.specs.Table.{told}
-use Rattle.tray.specs.Check.{checkTray}
-use Rattle.index.specs.Check.{checkIndex}
-use Rattle.build_spec.specs.Build.{build, leaves}
-use Rattle.fold_spec.specs.Fold.{foldAnswer, leaves as foldLeaves}
+use Rattle.tray.specs.Check.{checkTrayAnswer}
+use Rattle.index.specs.Check.{checkIndexAnswer}
+use Rattle.build_spec.specs.Build.{buildAnswer, buildLeaves}
+use Rattle.fold_spec.specs.Fold.{foldAnswer, foldLeaves}
 use Rattle.walk.specs.declared.cursor.Cursor.{Cursor}
-use Rattle.walk.specs.declared.GetAnswer.{GetAnswer}
-use Rattle.walk.specs.declared.GetAnswer.the-variants.{Found as GetFound, Absent, Refused as GetRefused}
-use Rattle.walk.specs.declared.SeekAnswer.{SeekAnswer}
-use Rattle.walk.specs.declared.SeekAnswer.the-variants.{Found, End, Refused}
-use Rattle.walk.specs.declared.Seeks.{Seeks}
-use Rattle.walk.specs.Answers.{getAnswer, seekAnswer}
+use Rattle.answers.specs.declared.GetAnswer.{GetAnswer}
+use Rattle.answers.specs.declared.GetAnswer.the-variants.{Found as GetFound, Absent, Refused as GetRefused}
+use Rattle.answers.specs.declared.SeekAnswer.{SeekAnswer}
+use Rattle.answers.specs.declared.SeekAnswer.the-variants.{Found, End, Refused}
+use Rattle.answers.specs.declared.CursorAnswer.{CursorAnswer}
+use Rattle.answers.specs.Get.{getAnswer}
+use Rattle.answers.specs.Seek.{seekAnswer}
 use Rattle.answers.specs.Next.{nextAnswer}
 use Rattle.answers.specs.declared.PageAnswer.{PageAnswer}
 use Rattle.answers.specs.declared.PageAnswer.the-variants.{More, End as PageEnd, Refused as PageRefused}
-use Rattle.answers.specs.declared.Pages.{Pages}
+use Rattle.answers.specs.declared.PagedAnswer.{PagedAnswer}
 use Rattle.answers.specs.Page.{pageAnswer, pageLeaves}
 use Rattle.answers.specs.Sheet.{sheetAnswer, sheetLeaves}
 use Rattle.theorems.specs.Told.{trayTold, indexTold, buildTold, getTold, seekTold, pageTold, sheetTold, foldTold}
@@ -27,16 +28,16 @@ use Rattle.theorems.specs.Cursors.{cursorIn, cursorNumbers}
 
 -- check tray
 pub record CheckTray (tray : List ℕ) (number figure : ℕ) : Type 0 where
-  pub answers : told number figure ≡ trayTold (checkTray tray)
+  pub answers : told number figure ≡ trayTold (checkTrayAnswer tray)
 
 -- check index
 pub record CheckIndex (tray index : List ℕ) (number figure : ℕ) : Type 0 where
-  pub answers : told number figure ≡ indexTold (checkIndex tray index)
+  pub answers : told number figure ≡ indexTold (checkIndexAnswer tray index)
 
 -- build: from `out` on entry to `left`
 pub record Build (tray : List ℕ) (d : ℕ) (out : List ℕ) (number figure : ℕ) (left : List ℕ) : Type 0 where
-  pub answers : told number figure ≡ buildTold (build tray d (length out))
-  pub leaving : left ≡ leaves tray d out (build tray d (length out))
+  pub answers : told number figure ≡ buildTold (buildAnswer tray d (length out))
+  pub leaving : left ≡ buildLeaves tray d out (buildAnswer tray d (length out))
 
 -- a value that get leaves: the record's where it was found, and else what was there
 unfoldable pub valueLeft : GetAnswer → List ℕ → List ℕ → List ℕ
@@ -66,7 +67,7 @@ cursorLeft End c was = cursorNumbers c
 cursorLeft (Refused r) c was = was
 
 -- an answer of seek or next, from the run, place and cursor on entry to those that are left
-pub record Sought (answer : Seeks) (run place : ℕ) (cursor : List ℕ) (number figure run′ place′ : ℕ) (cursor′ : List ℕ) : Type 0 where
+pub record Sought (answer : CursorAnswer) (run place : ℕ) (cursor : List ℕ) (number figure run′ place′ : ℕ) (cursor′ : List ℕ) : Type 0 where
   pub answers : told number figure ≡ seekTold (answer .answer)
   pub run-left : run′ ≡ runLeft (answer .answer) run
   pub place-left : place′ ≡ placeLeft (answer .answer) place
@@ -87,11 +88,11 @@ pageCursorLeft PageEnd c was = cursorNumbers c
 pageCursorLeft (PageRefused r) c was = was
 
 -- an answer of page, from the cursor on entry to the one that is left, where page leaves `leaves` in the output
-pub record Paging (answer : Pages) (leaves cursor : List ℕ) (number figure count : ℕ) (cursor′ left : List ℕ) : Type 0 where
+pub record Paging (answer : PagedAnswer) (buildLeaves cursor : List ℕ) (number figure count : ℕ) (cursor′ left : List ℕ) : Type 0 where
   pub answers : told number figure ≡ pageTold (answer .answer)
   pub counts : count ≡ answer .count
   pub cursor-left : cursor′ ≡ pageCursorLeft (answer .answer) (answer .cursor) cursor
-  pub leaving : left ≡ leaves
+  pub leaving : left ≡ buildLeaves
 
 -- page, from the cursor on entry
 pub record Page (tray index cursor out : List ℕ) (number figure count : ℕ) (cursor′ left : List ℕ) : Type 0 where

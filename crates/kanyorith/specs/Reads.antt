@@ -7,8 +7,7 @@
 --     Paged, pages-are             seek, and then page until it says the end
 --     Onward, pages-onward         page from any cursor that belongs
 --     next-never-lost, page-never-lost     no cursor that belongs is refused
---     sheet-lists, sheet-is        sheet
--- Assumes nothing.
+--     sheet-lists                  sheet
 use mathlib.Core.Path.{_≡_, refl, sym, ap, ap₂, _∙_, subst}
 use mathlib.Core.Logic.{⊎-elim}
 use Prim.Native.Nat.{ℕ, zero, suc, _+_, _-_, _*_, _≤_, _<_}
@@ -29,15 +28,15 @@ use Rattle.theory.specs.Rising.Kept.{keep-mem}
 use Rattle.theory.specs.Tests.{split, never}
 use Rattle.tray.specs.Frame.{runCount, runBytes}
 use Rattle.tray.specs.Run.{recordAt}
-use Rattle.index.specs.Check.{checkIndex}
-use Rattle.walk.specs.declared.Gets.{Gets}
+use Rattle.index.specs.Check.{checkIndexAnswer}
+use Rattle.answers.specs.declared.ValueAnswer.{ValueAnswer}
 use Rattle.walk.specs.declared.cursor.Cursor.{Cursor}
 use Rattle.tray.specs.declared.Place.{Place}
 use Rattle.walk.specs.Code.{numbers, spotOf}
 use Rattle.theorems.specs.Cursors.{spotIn, cursorIn, cursorNumbers}
-use Rattle.walk.specs.declared.Seeks.{Seeks}
-use Rattle.walk.specs.declared.SeekAnswer.{SeekAnswer}
-use Rattle.walk.specs.declared.SeekAnswer.the-variants.{Found, End, Refused}
+use Rattle.answers.specs.declared.CursorAnswer.{CursorAnswer}
+use Rattle.answers.specs.declared.SeekAnswer.{SeekAnswer}
+use Rattle.answers.specs.declared.SeekAnswer.the-variants.{Found, End, Refused}
 use Rattle.walk.specs.Walk.Spots.{Reading, check-reading, Stop, spots}
 use Rattle.walk.specs.Walk.Tours.{firstOf, each-at}
 use Rattle.walk.specs.Reads.{Got, value, absent, Found as Sighted, next, Written, page, belongs}
@@ -51,8 +50,10 @@ use Rattle.walk.specs.Reads.Page.{listing, page-is}
 use Rattle.walk.specs.Reads.Pages.{paged-lost, pages-are as paged-are}
 use Rattle.walk.specs.Walk.{Spot, Walked, ended, lost}
 use Rattle.walk.specs.Reads.Seek.{lookup, points, isFrom, from, seek-is, shown-shows}
-use Rattle.walk.specs.Answers.{cursorOf, gotTold, getAnswer, refusedSeek, seekTold as seekBy, seekFramed, seekAnswer}
-use Rattle.walk.specs.Answers.Hands.{spot-back}
+use Rattle.answers.specs.Quick.{cursorOf}
+use Rattle.answers.specs.Get.{gotTold, getAnswer}
+use Rattle.answers.specs.Seek.{refusedSeek, seekTold as seekBy, seekFramed, seekAnswer}
+use Rattle.answers.specs.Seek.Hands.{spot-back}
 use Rattle.answers.specs.Next.{refusedNext, nextTold, nextFramed, nextAnswer}
 use Rattle.answers.specs.declared.PageAnswer.{PageAnswer}
 use Rattle.answers.specs.declared.PageAnswer.the-variants.{More, End as PageEnd, Refused as PageRefused}
@@ -72,7 +73,7 @@ pub record Accepted (tray index : List ℕ) : Type 0 where
   pub says : CheckIndex tray index 0 segments
 
 pub reading : {t x : List ℕ} → Accepted t x → Reading t x
-reading {t} {x} a = check-reading t x (a .segments) (index-zero (checkIndex t x) (a .says .answers))
+reading {t} {x} a = check-reading t x (a .segments) (index-zero (checkIndexAnswer t x) (a .says .answers))
 
 -- what get answers and leaves in the value: the value of the point with this key, or absent where there is none
 pub data Looked (t key was : List ℕ) : ℕ → ℕ → List ℕ → Type 0 where
@@ -106,7 +107,7 @@ get-looks {t} {x} {key} {was} {value} {n} {f} a g =
     all : Looked t key was (getTold (getAnswer t x key .answer) .number) (getTold (getAnswer t x key .answer) .figure)
         (valueLeft (getAnswer t x key .answer) (getAnswer t x key .value) was)
     all =
-        subst (λ (s : Gets). Looked t key was (getTold (s .answer) .number) (getTold (s .answer) .figure) (valueLeft (s .answer) (s .value) was))
+        subst (λ (s : ValueAnswer). Looked t key was (getTold (s .answer) .number) (getTold (s .answer) .figure) (valueLeft (s .answer) (s .value) was))
         (sym (get-answers (reading a) key)) (got-looked t key was (looking (points t) (be 8 key 0)))
 
     by : getTold (getAnswer t x key .answer) ≡ told n f → valueLeft (getAnswer t x key .answer) (getAnswer t x key .value) was ≡ value → Looked t key was n f value
@@ -150,7 +151,7 @@ pub seek-sees : {t x key cursor cursor′ : List ℕ} {run place n f run′ plac
     → Sights t (be 8 key 0) n f run′ place′
 seek-sees {t} {x} {key} {cursor} {cursor′} {run} {place} {n} {f} {run′} {place′} a s =
     sees (reading a) (be 8 key 0) (from t x (be 8 key 0)) refl
-    (subst (λ (w : Seeks). Sought w run place cursor n f run′ place′ cursor′) (sought-from (reading a) key) (s .sought))
+    (subst (λ (w : CursorAnswer). Sought w run place cursor n f run′ place′ cursor′) (sought-from (reading a) key) (s .sought))
 
 -- two that see the same points see the same
 pub same-sights : {t u : List ℕ} {key n f r p m g r′ p′ : ℕ} → onward u key ≡ onward t key → Sights t key n f r p → Sights u key m g r′ p′
@@ -194,7 +195,7 @@ module _ {t x : List ℕ} (r : Reading t x) where
       → c ≡ cursorNumbers (cursorOf (p .spot)) → Next t x c run place n f run′ place′ c′
       → Sought (nextTold x (cursorOf (p .spot)) (firstOf foundAt qs 0)) run place c n f run′ place′ c′
   called us p qs e {c} {c′} {run} {place} {n} {f} {run′} {place′} is s =
-      subst (λ (w : Seeks). Sought w run place c n f run′ place′ c′)
+      subst (λ (w : CursorAnswer). Sought w run place c n f run′ place′ c′)
       (ap (λ (k : List ℕ). nextAnswer t x (cursorIn k)) is ∙ ap (nextAnswer t x) (cursor-back (cursorOf (p .spot))) ∙ next-from us p qs e) (s .sought)
 
   -- an end where a record stands, or a record where none is left, is not told
@@ -239,7 +240,7 @@ pub steps-are : {t x key cursor cursor′ : List ℕ} {run place run′ place′
     → Seek t x key cursor run place 0 1 run′ place′ cursor′ → Steps t x cursor′ es → recordAt (runBytes t run′) place′ ∷ es ≡ onward t (be 8 key 0)
 steps-are {t} {x} {key} {cursor} {cursor′} {run} {place} {run′} {place′} a s steps =
     steps-by (reading a) (be 8 key 0) (from t x (be 8 key 0)) refl
-    (subst (λ (w : Seeks). Sought w run place cursor 0 1 run′ place′ cursor′) (sought-from (reading a) key) (s .sought)) steps
+    (subst (λ (w : CursorAnswer). Sought w run place cursor 0 1 run′ place′ cursor′) (sought-from (reading a) key) (s .sought)) steps
 
 -- calls of page from a cursor on, each into an output of its own, until one says the end: what they wrote, put together
 pub data Paged (t x : List ℕ) : List ℕ → List ℕ → Type 0 where

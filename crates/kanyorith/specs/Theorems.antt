@@ -4,10 +4,10 @@
 -- definition. Everything below speaks of the promises alone: of any call that keeps them, whatever tray, index, key, prefix, cursor and
 -- output it is given. Lists are lists of bytes; a cursor is a list of 66 numbers. `n f` are a call's number and figure.
 --
--- Demand 1. Every call takes bytes of every sort and ends. It refuses a bad tray, index, bound or cursor itself, by a fixed number, and what a
+-- Demand 1. Every call takes any bytes and ends. It refuses a bad tray, index, bound or cursor itself, by a fixed number, and what a
 -- refusal returns and leaves in the output is fixed.
 --     ..-one-answer        the promise allows one answer
---     ..-exactly           a number and figure are given exactly when the table of document 01 says so (the tables: `Exactly.antt`)
+--     ..-exactly           a number and figure are given exactly when the table of docs/RULES.md, "Refusals by number", says so (the tables: `Exactly.antt`)
 --     ..-untouched         a refusal leaves the outputs as they were
 --     ..-behind            no call touches an output past what it writes
 --     seek-hands, next-hands, page-hands     the cursors that calls hand back belong
@@ -26,7 +26,6 @@
 --     get-same, seek-same, next-same, pages-same, sheet-same
 --     same-end, never-too-long, too-long, reaches-one
 --     empty-adds-nothing, copy-adds-nothing
--- Assumes nothing.
 use mathlib.Core.Path.{_≡_, refl, sym, ap, ap₂, _∙_, subst}
 use mathlib.Core.Logic.{_↔_}
 use Prim.Native.Nat.{ℕ, suc, _+_, _-_, _*_, _/_, _≤_, _<_}
@@ -51,10 +50,10 @@ use Rattle.tray.specs.Meaning.Laws.{runs-good, length-runsOf}
 use Rattle.tray.specs.Check.{Sound}
 use Rattle.index.specs.Layout.{segmentCount, segmentsOf, IndexFramed}
 use Rattle.index.specs.Rules.{keyOf, Accepted as Follows}
-use Rattle.index.specs.Check.{checkIndex}
+use Rattle.index.specs.Check.{checkIndexAnswer}
 use Rattle.index.specs.Check.Theorems.{answers-segments}
-use Rattle.walk.specs.declared.Seeks.{Seeks}
-use Rattle.walk.specs.declared.Gets.{Gets}
+use Rattle.answers.specs.declared.CursorAnswer.{CursorAnswer}
+use Rattle.answers.specs.declared.ValueAnswer.{ValueAnswer}
 use Rattle.walk.specs.Reads.Seek.{points, points-rise as rising-points}
 use Rattle.walk.specs.Reads.{belongs}
 use Rattle.walk.specs.Code.{spotOf}
@@ -62,16 +61,16 @@ use Rattle.walk.specs.Reads.Page.{listing}
 use Rattle.walk.specs.Reads.Prefix.{sheet-begins}
 use Rattle.theorems.specs.Read.{onward, prefixed}
 use Rattle.theorems.specs.Unchanged.{get-unchanged, sheet-unchanged, sheet-leaves-unchanged}
-use Rattle.walk.specs.declared.SeekAnswer.{SeekAnswer}
-use Rattle.walk.specs.declared.GetAnswer.{GetAnswer}
-use Rattle.walk.specs.Answers.{getAnswer}
-use Rattle.build_spec.specs.Build.{build, leaves, indexBytes}
+use Rattle.answers.specs.declared.SeekAnswer.{SeekAnswer}
+use Rattle.answers.specs.declared.GetAnswer.{GetAnswer}
+use Rattle.answers.specs.Get.{getAnswer}
+use Rattle.build_spec.specs.Build.{buildAnswer, buildLeaves, indexBytes}
 use Rattle.build_spec.specs.Build.Theorems.{built-bound, built-count}
 use Rattle.build_spec.specs.Build.Answers.{build-written, leaves-written, leaves-accepted}
 use Rattle.answers.specs.declared.PageAnswer.{PageAnswer}
 use Rattle.answers.specs.Page.{pageAnswer, pageLeaves}
 use Rattle.answers.specs.Sheet.{sheetAnswer, sheetLeaves}
-use Rattle.fold_spec.specs.Fold.{foldSize, foldAnswer, leaves as foldLeaves}
+use Rattle.fold_spec.specs.Fold.{foldSize, foldAnswer, foldLeaves}
 use Rattle.fold_spec.specs.Fold.Chains.{wholeSize, wholeBytes, reaches-one as one-whole, calls-sound, calls-visible, calls-meet, length-never-stops, length-stops}
 use Rattle.fold_spec.specs.Fold.Laws.{length-foldBytes}
 use Rattle.fold_spec.specs.Fold.Answers.{fold-written}
@@ -114,7 +113,7 @@ pub record Same (n f run place : ℕ) (c : List ℕ) (m g run′ place′ : ℕ)
   pub at-place : place ≡ place′
   pub cursor : c ≡ c′
 
-one-sought : {a : Seeks} {run place n f r p m g r′ p′ : ℕ} {c k k′ : List ℕ} → Sought a run place c n f r p k → Sought a run place c m g r′ p′ k′
+one-sought : {a : CursorAnswer} {run place n f r p m g r′ p′ : ℕ} {c k k′ : List ℕ} → Sought a run place c n f r p k → Sought a run place c m g r′ p′ k′
     → Same n f r p k m g r′ p′ k′
 one-sought p q =
     let e = one-told (p .answers) (q .answers) in
@@ -193,15 +192,15 @@ fold-exactly {t} {out} {a = a} {b} p m g = says-by (p .answers) (fold-table t a 
 -- DEMAND 1: WHAT A REFUSAL LEAVES
 
 pub build-untouched : {t out left : List ℕ} {d n f : ℕ} → Build t d out n f left → 0 < n → left ≡ out
-unfolding leaves
-build-untouched {t} {out} {d = d} p l = p .leaving ∙ ap (leaves t d out) (build-above (build t d (length out)) (p .answers) l .1)
+unfolding buildLeaves
+build-untouched {t} {out} {d = d} p l = p .leaving ∙ ap (buildLeaves t d out) (build-above (buildAnswer t d (length out)) (p .answers) l .1)
 
 pub get-untouched : {t x key was value : List ℕ} {n f : ℕ} → Get t x key was n f value → 0 < n → value ≡ was
 unfolding valueLeft
 get-untouched {t} {x} {key} {was} p l =
     p .leaving ∙ ap (λ (a : GetAnswer). valueLeft a (getAnswer t x key .value) was) (get-above (getAnswer t x key .answer) (p .answers) l .1)
 
-sought-untouched : {a : Seeks} {run place n f r p : ℕ} {c k : List ℕ} → Sought a run place c n f r p k → 0 < n → (r ≡ run) × (p ≡ place) × (k ≡ c)
+sought-untouched : {a : CursorAnswer} {run place n f r p : ℕ} {c k : List ℕ} → Sought a run place c n f r p k → 0 < n → (r ≡ run) × (p ≡ place) × (k ≡ c)
 unfolding runLeft placeLeft cursorLeft
 sought-untouched {a} {run} {place} {c = c} s l =
     let e = seek-above (a .answer) (s .answers) l .1 in (
@@ -246,7 +245,7 @@ pub record Behind (n : ℕ) (out left : List ℕ) : Type 0 where
 
 pub build-behind : {t out left : List ℕ} {d n : ℕ} → Build t d out 0 n left → Behind n out left
 build-behind {t} {out} {d = d} {n} p =
-    let w = leaves-written t d out n (build-zero (build t d (length out)) (p .answers)) in
+    let w = leaves-written t d out n (build-zero (buildAnswer t d (length out)) (p .answers)) in
     record { long = ap length (p .leaving) ∙ w .long; same = ap (drop n) (p .leaving) ∙ w .behind }
 
 pub fold-behind : {t out left : List ℕ} {a b n : ℕ} → Fold t a b out 0 n left → Behind n out left
@@ -285,19 +284,19 @@ page-hands l p = page-belongs l p
 
 -- DEMAND 2: INDEXES
 
--- accepted exactly when the tray is sound, the frame fits, every segment is right by the rules of document 01, and no record is left over
+-- accepted exactly when the tray is sound, the frame fits, every segment is right by the five rules (docs/RULES.md, "A right segment"), and no record is left over
 pub accepted-exactly : {t x : List ℕ} {n f : ℕ} → CheckIndex t x n f
     → (n ≡ 0) ↔ (Sound t × IndexFramed (runCount t) x × Follows (runsOf t) (segmentsOf (runCount t) x))
 accepted-exactly {t} {x} {n} {f} p = (
-  λ z. (let e = subst (λ (m : ℕ). told m f ≡ indexTold (checkIndex t x)) z (p .answers) in
-      let w = answers-segments t x f .0 (index-zero (checkIndex t x) e) in (w .0, w .1, w .2)),
+  λ z. (let e = subst (λ (m : ℕ). told m f ≡ indexTold (checkIndexAnswer t x)) z (p .answers) in
+      let w = answers-segments t x f .0 (index-zero (checkIndexAnswer t x) e) in (w .0, w .1, w .2)),
   λ w. one-told (p .answers) (index-exactly t x 0 (segmentCount x) .1 (index-0 (w .0) (w .1) (w .2))) .0,
 )
 
 -- what build writes is accepted for its tray
 pub built-is-accepted : {t out left : List ℕ} {d n : ℕ} → Bytes t → Build t d out 0 n left → Accepted t (take n left)
 built-is-accepted {t} {out} {left} {d} {n} bytes p =
-    let e = build-zero (build t d (length out)) (p .answers) in
+    let e = build-zero (buildAnswer t d (length out)) (p .answers) in
     let w = leaves-accepted t d out n (take n left) bytes e (ap (take n) (p .leaving)) in
     let s = build-written t d (length out) n .0 e .0 .sound in
     record { segments = segmentCount (take n left); says = record { answers = index-exactly t (take n left) 0 (segmentCount (take n left)) .1 (index-0 s (w .0) (w .1)) } }
@@ -305,7 +304,7 @@ built-is-accepted {t} {out} {left} {d} {n} bytes p =
 -- half of its segments, rounded down, times D + 1, is at most the records
 pub built-half : {t out left : List ℕ} {d n : ℕ} → Bytes t → Build t d out 0 n left → segmentCount (take n left) / 2 * (d + 1) ≤ recordsBefore t (runCount t)
 built-half {t} {out} {left} {d} {n} bytes p =
-    let e = build-zero (build t d (length out)) (p .answers) in
+    let e = build-zero (buildAnswer t d (length out)) (p .answers) in
     let b = build-written t d (length out) n .0 e .0 in
     let is : take n left ≡ indexBytes d (runsOf t) = ap (take n) (p .leaving) ∙ leaves-written t d out n e .front in
     subst (λ (s : ℕ). s / 2 * (d + 1) ≤ recordsBefore t (runCount t)) (sym (ap segmentCount is ∙ built-count (b .sound) (b .size) bytes)) (built-bound (b .sound) (b .size))
@@ -385,8 +384,8 @@ module _ {t x u y : List ℕ} (w : Unchanged t x u y) where
       subst-get : getAnswer u y key ≡ getAnswer t x key → Get u y key was m g value′ → Get t x key was m g value′
       subst-get e q =
           record {
-            answers = q .answers ∙ ap (λ (a : Gets). getTold (a .answer)) e;
-            leaving = q .leaving ∙ ap (λ (a : Gets). valueLeft (a .answer) (a .value) was) e;
+            answers = q .answers ∙ ap (λ (a : ValueAnswer). getTold (a .answer)) e;
+            leaving = q .leaving ∙ ap (λ (a : ValueAnswer). valueLeft (a .answer) (a .value) was) e;
           }
 
   -- seek finds the same key and value, or the end
@@ -475,7 +474,7 @@ adds {t} {a} {i} w =
     }
 
 module _ {t : List ℕ} {k : ℕ} (bytes : Bytes t) (sound : CheckTray t 0 k) where
-  -- an empty run, folded with the run behind it or before it
+  -- an empty run, folded with the run after it or before it
   pub empty-adds-nothing : (r : ℕ) → r < runCount t → countOf t r ≡ 0 → (suc r < runCount t → Adds-nothing t r r) × ((a : ℕ) → r ≡ suc a → Adds-nothing t a r)
   empty-adds-nothing r l e = let w = empty-run (sound-tray sound) bytes r l e in (λ more. adds (w .0 more), λ a z. adds (w .1 a z))
 

@@ -3,7 +3,6 @@
 --     Visited, Ends             a visit, and the end of a walk
 --     walk-ends                 so every walk from a spot ends
 --     Kept, Filled, page-holds  page: past the records written the output is as it was; it stays where less than 24 bytes remain
--- Assumes nothing.
 use mathlib.Core.Path.{_≡_, refl, sym, ap, _∙_, subst}
 use Prim.Native.Nat.{ℕ, zero, suc, _+_, _-_, _*_, _≤_, _<_, zero-le}
 use native.Mathlib.Omega.{arith}

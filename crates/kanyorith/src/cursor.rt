@@ -1,21 +1,14 @@
 // A cursor as 66 numbers: the segment's high and low half, the selector, and 63 places.
 use index::SegmentNo;
+use number::u16_of_u8;
+use number::u32_of_u16;
 use tray::Place;
 use walk::cursor::Cursor;
 ghost use mathlib.Core.Path.{_≡_};
-ghost use Prim.Native.Nat.{_≤_};
 ghost use lib.ListN.{length};
 ghost use Rattle.theorems.specs.Cursors.{cursorIn, cursorNumbers};
 ghost use Rattle.theorems.specs.Cursors.Laws.{PlacesIn, narrowCursor, PutPlaces};
 ghost use Rattle.theorems.specs.Wide.{narrowed};
-
-// A half of a segment's number.
-fn half(n: u16) -> u32
-    ensures { λ r. ⌜ r ≡ n ⌝ }
-    ensures { λ r. ⌜ r ≤ 65535 ⌝ }
-{
-    n as u32
-}
 
 // A selector. One above 255 is as good as 255: neither belongs.
 fn selector_in(n: u16) -> u8
@@ -48,17 +41,10 @@ pub(crate) fn cursor_in(numbers: &[u16]) -> Cursor
 {
     let places = places_in(numbers);
     Cursor {
-        segment: SegmentNo(half(numbers[0]) * 65536 + half(numbers[1])),
+        segment: SegmentNo(u32_of_u16(numbers[0]) * 65536 + u32_of_u16(numbers[1])),
         selector: selector_in(numbers[2]),
         places,
     }
-}
-
-// A number of 8 bits as one of 16.
-fn selector_out(n: u8) -> u16
-    ensures { λ r. ⌜ r ≡ n ⌝ }
-{
-    n as u16
 }
 
 // The places put among the numbers.
@@ -84,5 +70,5 @@ pub(crate) fn put_cursor(from: Cursor, numbers: &mut [u16])
     put_places(places, numbers);
     numbers[0] = (g / 65536) as u16;
     numbers[1] = (g % 65536) as u16;
-    numbers[2] = selector_out(from.selector);
+    numbers[2] = u16_of_u8(from.selector);
 }

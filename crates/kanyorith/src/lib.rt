@@ -1,4 +1,4 @@
-// The public face (document 01): one call for each of its calls, for C and Rust alike. Every call takes bytes of every sort and ends. It
+// The public face (docs/RULES.md, "The calls"): one call for each of its calls, for C and Rust alike. Every call takes any bytes and ends. It
 // answers the number of a refusal, or 0, and its figure beside it; what each call promises stands in `specs/Promises.antt`, and what follows
 // from the promises in `specs/Theorems.antt`. The declarations for C are in `include/kanyorith.h`.
 mod cursor;
@@ -9,7 +9,10 @@ use crate::cursor::put_cursor;
 use crate::told::narrow;
 use crate::told::refuse;
 use crate::told::refuse_own;
+use answers::CursorAnswer;
+use answers::GetAnswer;
 use answers::PageAnswer;
+use answers::SeekAnswer;
 use answers::SheetAnswer;
 use build::build;
 use build_spec::BuildAnswer;
@@ -25,9 +28,6 @@ use sheet::sheet;
 use tray::RunNo;
 use tray::TrayAnswer;
 use tray_check::check_tray;
-use walk::GetAnswer;
-use walk::SeekAnswer;
-use walk::Seeks;
 ghost use Rattle.kanyorith.specs.Promises.{CheckTray, CheckIndex, Build, Get, Sought, Seek, Next, Page, Sheet, Fold};
 
 // Check tray: 0 and the records, or 1, 3 or 2.
@@ -106,7 +106,7 @@ pub extern "C" fn kanyorith_get(
 // An answer of seek or next handed over: 0 and 1 with run, place and cursor, or 0 and 0 with the cursor of the end, or its refusal, which leaves
 // them as they were.
 fn hand_over(
-    s: Seeks,
+    s: CursorAnswer,
     run: &mut u8,
     place: &mut u16,
     cursor: &mut [u16; 66],

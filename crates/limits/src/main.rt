@@ -1,6 +1,6 @@
-// Runs the boundary cases of document 01 through the public calls, a line a case.
-use limits_tell::fill::put_records;
-use limits_tell::fill::put_tray;
+// Runs the limits (docs/RULES.md, "Run by a program") through the public calls, a line a case.
+use limits_tell::fill::fill_records;
+use limits_tell::fill::fill_tray;
 use limits_tell::tell::more;
 use limits_tell::tell::tell_build;
 use limits_tell::tell::tell_fold;
@@ -219,9 +219,9 @@ fn runs() {
 
 // Records of a run: up to 4,096. The second tray has 4,097.
 fn counts(most: &mut [u8; 102406], over: &mut [u8; 102431]) {
-    put_tray(most, 1, 6);
+    fill_tray(most, 1, 6);
     tell_tray(1, most);
-    put_tray(over, 1, 6);
+    fill_tray(over, 1, 6);
     over[5] = 1;
     tell_tray(1, over);
 }
@@ -294,8 +294,8 @@ fn bounds(t: &[u8]) {
 fn merge(t: &mut [u8; 204808], first: u64, out: &mut [u8])
     requires { ⌜ first ≤ 65535 ⌝ }
 {
-    put_tray(t, 2, 8);
-    put_records(t, 102408, first);
+    fill_tray(t, 2, 8);
+    fill_records(t, 102408, first);
     tell_fold(t, 0, 1, out);
     more(first);
 }
@@ -397,7 +397,7 @@ fn longest(t: &[u8], x: &mut [u8; 528200])
 }
 
 fn fill_longest(t: &mut [u8; 6451331], x: &mut [u8; 528200]) {
-    put_tray(t, 63, 130);
+    fill_tray(t, 63, 130);
     longest(t, x);
 }
 

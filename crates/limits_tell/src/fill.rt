@@ -9,7 +9,7 @@ fn low(n: u64) -> u8 {
 }
 
 // A record with its key. What is not stored here is zero in a tray that begins as zeros.
-fn put_record(bytes: &mut [u8], key: u64)
+fn fill_record(bytes: &mut [u8], key: u64)
     requires { ⌜ length (now bytes) ≡ 25 ⌝ }
 {
     bytes[5] = low(key / 65536);
@@ -19,7 +19,7 @@ fn put_record(bytes: &mut [u8], key: u64)
 }
 
 // A record at each 25 bytes from a place on, the keys counted up from the first.
-pub fn put_records(tray: &mut [u8], from: usize, first: u64)
+pub fn fill_records(tray: &mut [u8], from: usize, first: u64)
     requires { ⌜ from ≤ length (now tray) ⌝ }
     requires { ⌜ first ≤ 65535 ⌝ }
 {
@@ -27,14 +27,14 @@ pub fn put_records(tray: &mut [u8], from: usize, first: u64)
     let mut at = from;
     while 25 <= tray.len() - at {
         let e = at + 25;
-        put_record(&mut tray[at..e], key);
+        fill_record(&mut tray[at..e], key);
         key += 1;
         at = e;
     }
 }
 
 // The head of a tray whose records begin at the given place: each run has 4,096.
-fn put_head(tray: &mut [u8], runs: u8, records: usize)
+fn fill_head(tray: &mut [u8], runs: u8, records: usize)
     requires { ⌜ 0 < length (now tray) ⌝ }
     requires { ⌜ records ≤ length (now tray) ⌝ }
     requires { ⌜ records ≤ 130 ⌝ }
@@ -48,13 +48,13 @@ fn put_head(tray: &mut [u8], runs: u8, records: usize)
 }
 
 // A tray of runs of 4,096 records, the keys counted up from 0 over the whole tray.
-pub fn put_tray(tray: &mut [u8], runs: u8, records: usize)
+pub fn fill_tray(tray: &mut [u8], runs: u8, records: usize)
     requires { ⌜ 0 < length (now tray) ⌝ }
     requires { ⌜ records ≤ length (now tray) ⌝ }
     requires { ⌜ records ≤ 130 ⌝ }
 {
-    put_head(tray, runs, records);
-    put_records(tray, records, 0);
+    fill_head(tray, runs, records);
+    fill_records(tray, records, 0);
 }
 
 // How many bytes of an output are another than 170, which all of them are before a call.

@@ -9,7 +9,8 @@ use kanyorith::kanyorith_next;
 use kanyorith::kanyorith_page;
 use kanyorith::kanyorith_seek;
 use kanyorith::kanyorith_sheet;
-ghost use Prim.Native.Nat.{_≤_};
+use number::u64_of_u8;
+use number::u64_of_u16;
 
 // One number more in a line.
 pub fn more(n: u64) {
@@ -28,30 +29,18 @@ fn say(name: &[u8], a: u64, b: u64, number: u32, figure: u64) {
     more(figure);
 }
 
-// A number of 8 bits as one of 64.
-fn wide(n: u8) -> u64 {
-    n as u64
-}
-
-// A number of 16 bits as one of 64.
-fn half(n: u16) -> u64
-    ensures { λ r. ⌜ r ≤ 65535 ⌝ }
-{
-    n as u64
-}
-
 // The last byte, or 0 where there is none.
 fn last(bytes: &[u8]) -> u64 {
     if bytes.len() == 0 {
         return 0;
     }
-    wide(bytes[bytes.len() - 1])
+    u64_of_u8(bytes[bytes.len() - 1])
 }
 
 // The segment and the selector where a cursor stands.
 fn stand(cursor: &[u16; 66]) {
-    more(half(cursor[0]) * 65536 + half(cursor[1]));
-    more(half(cursor[2]));
+    more(u64_of_u16(cursor[0]) * 65536 + u64_of_u16(cursor[1]));
+    more(u64_of_u16(cursor[2]));
 }
 
 // Check tray: the runs, the bytes.
@@ -114,11 +103,11 @@ pub fn tell_get(tray: &[u8], index: &[u8], key: &[u8; 8]) {
     say(
         b"get, index bytes and last of key",
         index.len() as u64,
-        wide(key[7]),
+        u64_of_u8(key[7]),
         n,
         figure,
     );
-    more(wide(value[15]));
+    more(u64_of_u8(value[15]));
 }
 
 // Seek: the same; run, place, and where the cursor stands.
@@ -139,12 +128,12 @@ pub fn tell_seek(tray: &[u8], index: &[u8], key: &[u8; 8]) {
     say(
         b"seek, index bytes and last of key",
         index.len() as u64,
-        wide(key[7]),
+        u64_of_u8(key[7]),
         n,
         figure,
     );
-    more(wide(run));
-    more(half(place));
+    more(u64_of_u8(run));
+    more(u64_of_u16(place));
     stand(&cursor);
 }
 

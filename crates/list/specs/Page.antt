@@ -1,4 +1,4 @@
--- A page as the code hands it over. Assumes nothing.
+-- A page as the code hands it over.
 pub mod Code
 use mathlib.Core.Path.{_≡_}
 use Prim.Native.Nat.{ℕ}
@@ -6,8 +6,8 @@ use mathlib.Core.List.{List}
 use Rattle.walk.specs.Walk.{Spot, Walked, stayed, ended, lost}
 use Rattle.walk.specs.Reads.{Written}
 use Rattle.walk.specs.Code.{spotOf}
-use Rattle.list.specs.declared.points.Stop.{Stop}
-use Rattle.list.specs.declared.points.Stop.the-variants.{More, End, Lost}
+use Rattle.list.specs.declared.points.Halt.{Halt}
+use Rattle.list.specs.declared.points.Halt.the-variants.{More, End, Lost}
 use Rattle.list.specs.declared.points.Paged.{Paged}
 
 -- so many records are written, and the output
@@ -19,7 +19,7 @@ unfoldable pub begun : List ℕ → Written
 begun out = record { count = 0; out = out }
 
 -- what a page's end says, with what it left in the output
-unfoldable pub pagedAs : Stop → Written → Spot → Walked Written (Written × Spot)
+unfoldable pub pagedAs : Halt → Written → Spot → Walked Written (Written × Spot)
 pagedAs More w c = stayed (w, c)
 pagedAs End w c = ended w
 pagedAs (Lost g s) w c = lost g s w

@@ -3,7 +3,6 @@
 --     here-first, here-inner, here-back   where a loop begins, and what it says once it is left
 --     onward-from                         from a cursor on
 --     here-pass, here-no-run, here-no-place, here-stay, here-go     one selector
--- Assumes nothing.
 use mathlib.Core.Path.{_≡_, refl, sym, ap, ap₂, _∙_}
 use Prim.Native.Nat.{ℕ, _+_, _-_, _%_, _≤_, _<_}
 use native.Mathlib.Omega.{arith}

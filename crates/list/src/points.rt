@@ -1,10 +1,10 @@
 // What all listings share: how a page ends, and records written to the output, key and value, 24 bytes each.
 use number::big8;
 use number::put8;
-use number::wide_size;
+use number::usize_of_u8;
+use number::usize_of_u16;
 use tray::Place;
 use tray::RunNo;
-use tray::frame::size16;
 use walk::cursor::Cursor;
 ghost use mathlib.Core.Path.{_≡_};
 ghost use Prim.Native.Nat.{_+_, _*_, _≤_, _<_};
@@ -17,7 +17,7 @@ ghost use Rattle.list.specs.Stops.{Within};
 ghost use Rattle.list.specs.Put.{putAll};
 
 // How a page ends: at a record that is not written, at the end, or lost at a selector of a segment.
-pub enum Stop {
+pub enum Halt {
     More,
     End,
     Lost(u32, u32),
@@ -25,7 +25,7 @@ pub enum Stop {
 
 // The end of a page: how many records were written, and the cursor of the first that was not.
 pub struct Paged {
-    pub stop: Stop,
+    pub stop: Halt,
     pub count: usize,
     pub cursor: Cursor,
 }
@@ -37,7 +37,7 @@ fn write_from(run: &[u8], p: Place, out: &mut [u8], at: usize)
     ensures { λ _. ⌜ now (out .exit) ≡ put (now (out .entry)) at (listedBytes (recordAt (now (run .entry)) (p .0))) ⌝ }
 {
     let i = p.0;
-    let from = 25 * size16(i);
+    let from = 25 * usize_of_u16(i);
     put8(out, at, big8(run, from));
     let high = big8(run, from + 9);
     let low = big8(run, from + 17);
@@ -52,13 +52,13 @@ pub fn write_point(t: &[u8], starts: &[usize], r: RunNo, p: Place, out: &mut [u8
     ensures { λ _. ⌜ now (out .exit) ≡ put (now (out .entry)) at (listedBytes (recordAt (runBytes (now (t .entry)) (r .0)) (p .0))) ⌝ }
 {
     let n = r.0;
-    let i = wide_size(n);
+    let i = usize_of_u8(n);
     let a = starts[i];
     let e = starts[i + 1];
     write_from(&t[a..e], p, out, at);
 }
 
-// The gathered records, written behind the ones that are: each is handed on as its own stretch of the tray.
+// The gathered records, written after the ones that are: each is handed on as its own stretch of the tray.
 pub fn put_all(t: &[u8], ats: &[usize], k: usize, count: usize, out: &mut [u8])
     requires { ⌜ Within (now t) (take k (now ats)) ⌝ }
     requires { ⌜ (k ≤ length (now ats)) × (24 * (count + k) ≤ length (now out)) ⌝ }

@@ -1,5 +1,4 @@
 -- The next key of each run, as it is kept beside the places: what a merge of all runs reads. Which run comes next: `Leads`.
--- Assumes nothing.
 pub mod Laws
 pub mod Leads
 use Prim.Native.Nat.{ℕ, _≤_, _<_}

@@ -1,6 +1,6 @@
 // What is kept of each run while all are merged: its next key and the one after it, filled at the start and renewed where a record is taken.
 use crate::lead::keep;
-use number::wide_size;
+use number::usize_of_u8;
 use tray::Place;
 use tray::RunNo;
 use tray::run::key_at;
@@ -33,7 +33,7 @@ fn fill_keys(t: &[u8], h: u8, counts: &[u16], starts: &[usize], places: &[u16], 
 {
     let mut r: u8 = 0;
     while r < h {
-        let i = wide_size(r);
+        let i = usize_of_u8(r);
         let a = starts[i];
         let e = starts[i + 1];
         keys[i] = head_key(&t[a..e], counts[i], Place(places[i]));
@@ -61,7 +61,7 @@ fn fill_nexts(t: &[u8], h: u8, counts: &[u16], starts: &[usize], places: &[u16],
 {
     let mut r: u8 = 0;
     while r < h {
-        let i = wide_size(r);
+        let i = usize_of_u8(r);
         let a = starts[i];
         let e = starts[i + 1];
         nexts[i] = key_after(&t[a..e], counts[i], Place(places[i]));
@@ -120,7 +120,7 @@ pub fn advance(
     ensures { λ _. ⌜ Heading (now (t .entry)) (now (counts .entry)) (now (starts .entry)) (now (places .exit)) (now (keys .exit)) (now (nexts .exit)) (now (tops .exit)) (now (firsts .exit)) ⌝ }
 {
     let n = r.0;
-    let i = wide_size(n);
+    let i = usize_of_u8(n);
     let a = starts[i];
     let e = starts[i + 1];
     let p = places[i] + 1;

@@ -1,6 +1,6 @@
 // Which run comes next: the first of those with the least key. Of each block of eight runs that one is kept, so that a record taken
 // renews one block. The key after the next one is kept too, so that none is waited for.
-use number::wide_size;
+use number::usize_of_u8;
 ghost use mathlib.Core.Path.{_≡_};
 ghost use mathlib.Core.Bool.{cond};
 ghost use Prim.Native.Nat.{_+_, _*_, _≤_, _<_};
@@ -30,13 +30,13 @@ fn lead_at(keys: &[u64], r: u8) -> Lead
     ensures { λ m. ⌜ First (now (keys .entry)) r (r + 1) (m .key) (m .run) ⌝ }
 {
     Lead {
-        key: keys[wide_size(r)],
+        key: keys[usize_of_u8(r)],
         run: r,
     }
 }
 
 // The first of four runs, and of eight.
-fn four(keys: &[u64], r: u8) -> Lead
+fn least_of_4(keys: &[u64], r: u8) -> Lead
     requires { ⌜ (length (now keys) ≡ 64) × (r + 4 ≤ 64) ⌝ }
     ensures { λ m. ⌜ First (now (keys .entry)) r (r + 4) (m .key) (m .run) ⌝ }
 {
@@ -45,11 +45,11 @@ fn four(keys: &[u64], r: u8) -> Lead
     ahead(a, b)
 }
 
-fn eight(keys: &[u64], r: u8) -> Lead
+fn least_of_8(keys: &[u64], r: u8) -> Lead
     requires { ⌜ (length (now keys) ≡ 64) × (r + 8 ≤ 64) ⌝ }
     ensures { λ m. ⌜ First (now (keys .entry)) r (r + 8) (m .key) (m .run) ⌝ }
 {
-    ahead(four(keys, r), four(keys, r + 4))
+    ahead(least_of_4(keys, r), least_of_4(keys, r + 4))
 }
 
 // The first of block b, kept, of h runs in all. Up to four are the first half of the one block.
@@ -58,13 +58,13 @@ pub fn keep(keys: &[u64], h: u8, b: u8, tops: &mut [u64], firsts: &mut [u8])
     ensures { λ _. ⌜ Kept (now (keys .entry)) b (now (tops .entry)) (now (firsts .entry)) (now (tops .exit)) (now (firsts .exit)) ⌝ }
 {
     if h <= 4 {
-        let m = four(keys, 0);
+        let m = least_of_4(keys, 0);
         tops[0] = m.key;
         firsts[0] = m.run;
         return;
     }
-    let l = eight(keys, 8 * b);
-    let i = wide_size(b);
+    let l = least_of_8(keys, 8 * b);
+    let i = usize_of_u8(b);
     tops[i] = l.key;
     firsts[i] = l.run;
 }
@@ -81,7 +81,7 @@ fn kept(tops: &[u64], firsts: &[u8], b: usize) -> Lead
 }
 
 // The first of four blocks.
-fn four_kept(tops: &[u64], firsts: &[u8], b: usize) -> Lead
+fn least_of_4_kept(tops: &[u64], firsts: &[u8], b: usize) -> Lead
     requires { ⌜ (length (now tops) ≡ 8) × (length (now firsts) ≡ 8) × (b + 4 ≤ 8) ⌝ }
     ensures { λ m. ⌜ Topped (now (tops .entry)) (now (firsts .entry)) b (b + 4) (m .key) (m .run) ⌝ }
 {
@@ -98,7 +98,10 @@ pub fn leader(tops: &[u64], firsts: &[u8], h: u8) -> Lead
     if h <= 8 {
         return kept(tops, firsts, 0);
     }
-    ahead(four_kept(tops, firsts, 0), four_kept(tops, firsts, 4))
+    ahead(
+        least_of_4_kept(tops, firsts, 0),
+        least_of_4_kept(tops, firsts, 4),
+    )
 }
 
 // The first run that is not at its end, or h.
@@ -108,7 +111,7 @@ fn first_left(counts: &[u16], places: &[u16], h: u8) -> u8
 {
     let mut r: u8 = 0;
     while r < h {
-        let i = wide_size(r);
+        let i = usize_of_u8(r);
         if places[i] < counts[i] {
             return r;
         }

@@ -2,7 +2,6 @@
 --     told-is               what the code's walk tells is next's answer
 --     next-ends             from the end, the end
 --     next-off              a cursor that doesn't belong
--- Assumes nothing.
 use mathlib.Core.Path.{_≡_, sym, ap, _∙_}
 use Prim.Native.Nat.{ℕ, _≤_}
 use native.Mathlib.Omega.{arith}
@@ -13,13 +12,13 @@ use Rattle.refusal.specs.declared.Refusal.the-variants.{Cursor as NotBelonging}
 use Rattle.tray.specs.Frame.{runCount}
 use Rattle.index.specs.Layout.{segmentCount}
 use Rattle.walk.specs.declared.cursor.Cursor.{Cursor}
-use Rattle.walk.specs.declared.Seeks.{Seeks}
-use Rattle.walk.specs.declared.SeekAnswer.the-variants.{End}
+use Rattle.answers.specs.declared.CursorAnswer.{CursorAnswer}
+use Rattle.answers.specs.declared.SeekAnswer.the-variants.{End}
 use Rattle.walk.specs.Walk.{walkFrom}
 use Rattle.walk.specs.Reads.{belongs, next}
 use Rattle.walk.specs.Code.{Walking, spotOf}
-use Rattle.walk.specs.Answers.{endAt}
-use Rattle.walk.specs.Answers.Code.{end-at}
+use Rattle.answers.specs.Quick.{endAt}
+use Rattle.answers.specs.Code.{end-at}
 use Rattle.answers.specs.Next.{refusedNext, nextTold, nextFramed}
 
 module _ {t x : List ℕ} {h d n : ℕ} {counts : List ℕ} (w : Walking t x h d n counts) (c : Cursor) {b : Bool} (told : b ≡ belongs h x (spotOf c)) where
@@ -27,18 +26,18 @@ module _ {t x : List ℕ} {h d n : ℕ} {counts : List ℕ} (w : Walking t x h d
   there y = ap (λ (k : ℕ). belongs k x (spotOf c)) (sym (w .runs)) ∙ sym told ∙ y
 
   -- what the code's walk tells is next's answer
-  pub told-is : {r : Seeks} → b ≡ true → r ≡ nextTold x c (next t x (spotOf c)) → r ≡ nextFramed t x c
+  pub told-is : {r : CursorAnswer} → b ≡ true → r ≡ nextTold x c (next t x (spotOf c)) → r ≡ nextFramed t x c
   unfolding nextFramed
   told-is y e = e ∙ sym (rw (there y))
 
   -- from the end, the end
-  pub next-ends : {r : Seeks} → b ≡ true → n ≤ c .segment .0 → r ≡ record { answer = End; cursor = endAt n } → r ≡ nextFramed t x c
+  pub next-ends : {r : CursorAnswer} → b ≡ true → n ≤ c .segment .0 → r ≡ record { answer = End; cursor = endAt n } → r ≡ nextFramed t x c
   unfolding nextFramed next walkFrom nextTold spotOf
   next-ends y l e =
       let count : n ≡ segmentCount x = w .index .count in
       e ∙ ap (λ (k : Cursor). record { answer = End; cursor = k }) (end-at x count) ∙ sym (rw (there y, le-ltb (c .segment .0) (segmentCount x) (omega arith)))
 
   -- a cursor that doesn't belong
-  pub next-off : {r : Seeks} → b ≡ false → r ≡ refusedNext c (NotBelonging (c .segment .0)) → r ≡ nextFramed t x c
+  pub next-off : {r : CursorAnswer} → b ≡ false → r ≡ refusedNext c (NotBelonging (c .segment .0)) → r ≡ nextFramed t x c
   unfolding nextFramed
   next-off f e = e ∙ sym (rw (ap (λ (k : ℕ). belongs k x (spotOf c)) (sym (w .runs)) ∙ sym told ∙ f))

@@ -6,7 +6,6 @@
 --     visible-go, visible-stay         what happens at a selector
 --     may-run, may-place               a record that may be passed
 --     next-passed, next-lost           past the current selector
--- Assumes nothing.
 pub mod Told
 use mathlib.Core.Path.{_≡_, refl, sym, ap, ap₂, _∙_, subst}
 use Prim.Native.Nat.{ℕ, zero, suc, _+_, _-_, _*_, _%_, _≤_, _<_}
@@ -34,7 +33,7 @@ use Rattle.walk.specs.Reads.{Found, unmarked, foundBy, nextVisit, next}
 use Rattle.walk.specs.Code.{placed, numbers, getD-numbers, length-numbers, Walking, spotOf, Selecting, selectors-pass, selectors-lost, selectors-go}
 use Rattle.walk.specs.Code.Moves.{pastGap, pastRecord}
 use Rattle.walk.specs.Code.Turns.{Here, here-from}
-use Rattle.walk.specs.Answers.Code.{walking}
+use Rattle.answers.specs.Code.{walking}
 
 -- tray and index as next has them: it reads the counts where they stand
 pub record Going (t x : List ℕ) (h d n : ℕ) : Type 0 where

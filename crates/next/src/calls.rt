@@ -2,22 +2,22 @@
 use crate::next::next_ends;
 use crate::next::next_from;
 use crate::next::next_refused;
+use answers::CursorAnswer;
 use index::frame::IndexFrame;
 use index::frame::index_frame;
 use refusal::Refusal;
 use tray::frame::TrayFrame;
 use tray::frame::tray_frame;
-use walk::Seeks;
 use walk::cursor::Cursor;
+use walk::cursor::place_numbers;
 use walk_cursor::belongs;
-use walk_cursor::place_numbers;
 ghost use mathlib.Core.Path.{_≡_};
 ghost use Rattle.tray.specs.Frame.{Opened};
 ghost use Rattle.index.specs.Layout.Code.{Laid};
 ghost use Rattle.answers.specs.Next.{nextAnswer, nextFramed};
 
 // Next where both frames fit.
-fn next_framed(t: &[u8], x: &[u8], f: TrayFrame, d: u8, n: u32, from: Cursor) -> Seeks
+fn next_framed(t: &[u8], x: &[u8], f: TrayFrame, d: u8, n: u32, from: Cursor) -> CursorAnswer
     requires { ⌜ Opened (now t) f ⌝ }
     requires { ⌜ Laid (now t) (now x) d n ⌝ }
     ensures { λ r. ⌜ r ≡ nextFramed (now (t .entry)) (now (x .entry)) from ⌝ }
@@ -37,7 +37,7 @@ fn next_framed(t: &[u8], x: &[u8], f: TrayFrame, d: u8, n: u32, from: Cursor) ->
 }
 
 // Next: the first visible record after the cursor's, or the end; refusals 1, 4, 11, 10.
-pub fn next(t: &[u8], x: &[u8], from: Cursor) -> Seeks
+pub fn next(t: &[u8], x: &[u8], from: Cursor) -> CursorAnswer
     ensures { λ r. ⌜ r ≡ nextAnswer (now (t .entry)) (now (x .entry)) from ⌝ }
 {
     let f = tray_frame(t);

@@ -1,3 +1,3 @@
-// Going on from a cursor to the next visible record (document 01, "Reading through an index").
+// Going on from a cursor to the next visible record (docs/RULES.md, "Reading through an index").
 pub mod calls;
 pub mod next;

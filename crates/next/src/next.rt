@@ -1,14 +1,14 @@
 // Next: past the current selector, and on to the first visible record.
+use answers::CursorAnswer;
+use answers::SeekAnswer;
 use index::SegmentNo;
 use index::frame::segment_at;
-use number::wide_size;
-use number::wide32;
+use number::u32_of_u8;
+use number::usize_of_u8;
 use refusal::Refusal;
 use tray::Place;
 use tray::RunNo;
 use tray::frame::count_of;
-use walk::SeekAnswer;
-use walk::Seeks;
 use walk::cursor::Cursor;
 use walk::cursor::load;
 ghost use mathlib.Core.Path.{_≡_};
@@ -16,30 +16,30 @@ ghost use Prim.Native.Nat.{_+_, _*_, _%_, _≤_, _<_};
 ghost use mathlib.Core.Bool.{_||_};
 ghost use lib.ListN.{length, getD};
 ghost use lib.Dec.{eqb};
-ghost use Rattle.walk.specs.declared.SeekAnswer.the-variants.{End as TheEnd};
+ghost use Rattle.answers.specs.declared.SeekAnswer.the-variants.{End as TheEnd};
 ghost use Rattle.tray.specs.Frame.{runCount};
 ghost use Rattle.walk.specs.Walk.{walkFrom, named as namedBy};
 ghost use Rattle.walk.specs.Reads.{next as nextOf};
 ghost use Rattle.walk.specs.Code.{placed, numbers, spotOf};
-ghost use Rattle.walk.specs.Answers.{endAt};
+ghost use Rattle.answers.specs.Quick.{endAt};
 ghost use Rattle.answers.specs.Next.{nextTold, refusedNext, foundNext};
 ghost use Rattle.next.specs.Next.{Going, visibleVisit, passedBy};
 
 // A refused next hands back the cursor that it was given.
-pub fn next_refused(cursor: Cursor, r: Refusal) -> Seeks
+pub fn next_refused(cursor: Cursor, r: Refusal) -> CursorAnswer
     ensures { λ s. ⌜ s ≡ refusedNext cursor r ⌝ }
 {
-    Seeks {
+    CursorAnswer {
         answer: SeekAnswer::Refused(r),
         cursor,
     }
 }
 
 // The end of an index of n segments.
-pub fn next_ends(n: u32) -> Seeks
+pub fn next_ends(n: u32) -> CursorAnswer
     ensures { λ r. ⌜ r ≡ record { answer = TheEnd; cursor = endAt n } ⌝ }
 {
-    Seeks {
+    CursorAnswer {
         answer: SeekAnswer::End,
         cursor: Cursor {
             segment: SegmentNo(n),
@@ -50,14 +50,14 @@ pub fn next_ends(n: u32) -> Seeks
 }
 
 // Next stays at a record of selector v, at a selector of a segment.
-fn found_next(mut cursor: Cursor, g: u32, s: usize, v: u8, p: Place) -> Seeks
+fn found_next(mut cursor: Cursor, g: u32, s: usize, v: u8, p: Place) -> CursorAnswer
     requires { ⌜ s < 256 ⌝ }
     ensures { λ r. ⌜ r ≡ foundNext g s (cursor .places) v p ⌝ }
 {
     let segment = SegmentNo(g);
     cursor.segment = segment;
     cursor.selector = s as u8;
-    Seeks {
+    CursorAnswer {
         answer: SeekAnswer::Found(RunNo(v), p),
         cursor,
     }
@@ -65,7 +65,7 @@ fn found_next(mut cursor: Cursor, g: u32, s: usize, v: u8, p: Place) -> Seeks
 
 // The first visible record past the cursor's own selector, which the cursor passes by its moves. The walk reads counts and index bytes, and no
 // record. The places stay in the moved cursor, and are copied once more, where the walk ends.
-fn first_from(t: &[u8], x: &[u8], h: u8, d: u8, n: u32, from: Cursor, here: u8) -> Seeks
+fn first_from(t: &[u8], x: &[u8], h: u8, d: u8, n: u32, from: Cursor, here: u8) -> CursorAnswer
     requires { ⌜ Going (now t) (now x) h d n ⌝ }
     requires { ⌜ (from .segment .0 < n) × (from .selector < d) ⌝ }
     requires { ⌜ ((here ≡ 63 → ⊥) → here % 64 < 63) × ((here ≡ 63 → ⊥) → getD (from .places) (here % 64) (placed 0) .0 < 65535) ⌝ }
@@ -77,10 +77,10 @@ fn first_from(t: &[u8], x: &[u8], h: u8, d: u8, n: u32, from: Cursor, here: u8) 
         at = from.past_record(RunNo(here % 64));
     }
     let mut g = at.segment.0;
-    let size = wide_size(d);
-    let mut s = wide_size(at.selector);
+    let size = usize_of_u8(d);
+    let mut s = usize_of_u8(at.selector);
     'walk: loop {
-        let first = segment_at(SegmentNo(g), h, d) + 8 + 2 * wide_size(h);
+        let first = segment_at(SegmentNo(g), h, d) + 8 + 2 * usize_of_u8(h);
         while s < size {
             let v = x[first + s];
             if v == 63 {
@@ -89,7 +89,7 @@ fn first_from(t: &[u8], x: &[u8], h: u8, d: u8, n: u32, from: Cursor, here: u8) 
             }
             let r = v % 64;
             if r < h {
-                let i = wide_size(r);
+                let i = usize_of_u8(r);
                 let p = at.places[i];
                 let q = p.0;
                 if q < count_of(t, RunNo(r)) {
@@ -124,7 +124,7 @@ fn passes(t: &[u8], h: u8, places: &[u16; 63], v: u8) -> bool
     }
     let r = v % 64;
     if r < h {
-        let i = wide_size(r);
+        let i = usize_of_u8(r);
         return places[i] < count_of(t, RunNo(r));
     }
     false
@@ -139,7 +139,7 @@ pub fn next_from(
     n: u32,
     places: &[u16; 63],
     from: Cursor,
-) -> Seeks
+) -> CursorAnswer
     requires { ⌜ Going (now t) (now x) h d n ⌝ }
     requires { ⌜ (from .segment .0 < n) × (from .selector < d) ⌝ }
     requires { ⌜ now places ≡ numbers (from .places) ⌝ }
@@ -147,9 +147,9 @@ pub fn next_from(
 {
     let g = from.segment;
     let s = from.selector;
-    let v = x[segment_at(g, h, d) + 8 + 2 * wide_size(h) + wide_size(s)];
+    let v = x[segment_at(g, h, d) + 8 + 2 * usize_of_u8(h) + usize_of_u8(s)];
     if passes(t, h, places, v) {
         return first_from(t, x, h, d, n, from, v);
     }
-    next_refused(from, Refusal::Lost(g.0, wide32(s)))
+    next_refused(from, Refusal::Lost(g.0, u32_of_u8(s)))
 }

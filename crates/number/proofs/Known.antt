@@ -2,7 +2,6 @@
 -- whoever has a slice of bytes and needs `Bytes`.
 --     bytes-known   what a slice of bytes gives at each place, as `Bytes`
 --     Four, four    the four bytes from a place on
--- Assumes nothing.
 use mathlib.Core.Path.{_≡_, ap}
 use mathlib.Core.List.{List}
 use Prim.Native.Nat.{ℕ, _+_, _<_}

@@ -1,7 +1,6 @@
 -- What the stores of `put2` and `put4` leave is `put` of the number's bytes.
 --     stored             one law over the width
---     bytes-2, bytes-4   the bytes as each of them reckons them
--- Assumes nothing.
+--     bytes-2, bytes-4   the bytes as each of them computes them
 use mathlib.Core.Path.{_≡_, sym, ap, _∙_}
 use mathlib.Core.List.{List, [], _∷_}
 use Prim.Native.Nat.{ℕ, _+_, _/_, _%_, _≤_, _<_}
@@ -18,7 +17,7 @@ pub stored : (s : List ℕ) (p w n : ℕ) {ys : List ℕ}
     → bytesOf w n ≡ ys → p + w ≤ length s → sets s p ys ≡ put s p (bytesOf w n)
 stored s p w n {ys} e h = put-sets s p ys (omega (arith, ap length e, length-bytesOf w n)) ∙ ap (put s p) (sym e)
 
--- the bytes of a number of so many bytes, each as the code reckons it
+-- the bytes of a number of so many bytes, each as the code computes it
 pub bytes-2 : (n : ℕ) → n < 65536 → bytesOf 2 n ≡ n / 256 ∷ n % 256 ∷ []
 unfolding bytesOf
 bytes-2 n h = bytesOf-high 1 n h

@@ -1,9 +1,10 @@
--- Big-endian numbers in lists of bytes (document 01, "The tray": all numbers are big-endian; keys are compared as unsigned bytes).
--- The laws are in `Big/Laws.antt`, `Big/Writes.antt` and `Big/Order.antt`. Assumes nothing.
+-- Big-endian numbers in lists of bytes (docs/FORMAT.md, "The tray": all numbers are big-endian; keys are compared as unsigned bytes).
+-- The laws are in `Big/Laws.antt`, `Big/Writes.antt` and `Big/Order.antt`.
 pub mod Laws
 pub mod Writes
 pub mod Order
 mod Cases
+pub mod Copies
 use Prim.Native.Nat.{ℕ, zero, suc, _+_, _*_, _/_, _%_, _<_}
 use mathlib.Core.Path.{_≡_}
 use mathlib.Core.List.{List, [], _∷_, _++_}

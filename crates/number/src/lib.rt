@@ -4,36 +4,61 @@ ghost use Prim.Native.Nat.{_+_, _≤_};
 ghost use lib.ListN.{length};
 ghost use Rattle.number.specs.Big.{be, bytesOf, put};
 
+// A number as one of more bits: what is read from a slice is widened by these, so that a proof asks for the index alone.
+
 // The byte, as 16 bits.
-pub fn wide16(x: u8) -> u16
+pub fn u16_of_u8(x: u8) -> u16
     ensures { λ r. ⌜ r ≡ x ⌝ }
 {
     x as u16
 }
 
 // The byte, as 32 bits.
-pub fn wide32(x: u8) -> u32
+pub fn u32_of_u8(x: u8) -> u32
     ensures { λ r. ⌜ r ≡ x ⌝ }
 {
     x as u32
 }
 
 // The byte, as 64 bits.
-pub fn wide64(x: u8) -> u64
+pub fn u64_of_u8(x: u8) -> u64
     ensures { λ r. ⌜ r ≡ x ⌝ }
 {
     x as u64
 }
 
 // The number of 32 bits, as 64.
-pub fn wide_32(x: u32) -> u64
+pub fn u64_of_u32(x: u32) -> u64
     ensures { λ r. ⌜ r ≡ x ⌝ }
 {
     x as u64
 }
 
 // The byte, as a place or a length.
-pub fn wide_size(x: u8) -> usize
+pub fn usize_of_u8(x: u8) -> usize
+    ensures { λ r. ⌜ r ≡ x ⌝ }
+{
+    x as usize
+}
+
+// The number of 16 bits, as 32.
+pub fn u32_of_u16(x: u16) -> u32
+    ensures { λ r. ⌜ r ≡ x ⌝ }
+    ensures { λ r. ⌜ r ≤ 65535 ⌝ }
+{
+    x as u32
+}
+
+// The number of 16 bits, as 64.
+pub fn u64_of_u16(x: u16) -> u64
+    ensures { λ r. ⌜ r ≡ x ⌝ }
+    ensures { λ r. ⌜ r ≤ 65535 ⌝ }
+{
+    x as u64
+}
+
+// The number of 16 bits, as a length.
+pub fn usize_of_u16(x: u16) -> usize
     ensures { λ r. ⌜ r ≡ x ⌝ }
 {
     x as usize
@@ -44,7 +69,7 @@ pub fn big2(s: &[u8], at: usize) -> u16
     requires { ⌜ at + 2 ≤ length (now s) ⌝ }
     ensures { λ r. ⌜ r ≡ be 2 (now (s .entry)) at ⌝ }
 {
-    wide16(s[at]) * 256 + wide16(s[at + 1])
+    u16_of_u8(s[at]) * 256 + u16_of_u8(s[at + 1])
 }
 
 // The number that 4 bytes from a place on spell. Byte by byte: made of two `big2` it would keep `big8` from being one load.
@@ -52,7 +77,8 @@ pub fn big4(s: &[u8], at: usize) -> u32
     requires { ⌜ at + 4 ≤ length (now s) ⌝ }
     ensures { λ r. ⌜ r ≡ be 4 (now (s .entry)) at ⌝ }
 {
-    ((wide32(s[at]) * 256 + wide32(s[at + 1])) * 256 + wide32(s[at + 2])) * 256 + wide32(s[at + 3])
+    ((u32_of_u8(s[at]) * 256 + u32_of_u8(s[at + 1])) * 256 + u32_of_u8(s[at + 2])) * 256
+        + u32_of_u8(s[at + 3])
 }
 
 // The number that 8 bytes from a place on spell: a key, as the order needs it. Inlined, it compiles to one load and a byte swap,
@@ -61,7 +87,7 @@ pub fn big8(s: &[u8], at: usize) -> u64
     requires { ⌜ at + 8 ≤ length (now s) ⌝ }
     ensures { λ r. ⌜ r ≡ be 8 (now (s .entry)) at ⌝ }
 {
-    wide_32(big4(s, at)) * 4294967296 + wide_32(big4(s, at + 4))
+    u64_of_u32(big4(s, at)) * 4294967296 + u64_of_u32(big4(s, at + 4))
 }
 
 // Writes the 2 bytes of a number from a place on, and nothing else.
@@ -91,4 +117,17 @@ pub fn put8(out: &mut [u8], at: usize, v: u64)
 {
     put4(out, at, (v / 4294967296) as u32);
     put4(out, at + 4, (v % 4294967296) as u32);
+}
+
+// Copies bytes to a place of the output, and writes nothing else.
+pub fn copy(part: &[u8], out: &mut [u8], at: usize)
+    requires { ⌜ at + length (now part) ≤ length (now out) ⌝ }
+    ensures { λ _. ⌜ now (out .exit) ≡ put (now (out .entry)) at (now (part .entry)) ⌝ }
+{
+    let n = part.len();
+    let mut i: usize = 0;
+    while i < n {
+        out[at + i] = part[i];
+        i += 1;
+    }
 }

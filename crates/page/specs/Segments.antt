@@ -1,9 +1,8 @@
 -- A page a segment at a time: its records are gathered first and then written, where there is room for them.
 --     page-passes, tour-page       what a page does at a segment's stops
---     paging-on, paging-lost       behind them
+--     paging-on, paging-lost       after them
 --     againAt, again-same, again-other     where what is gathered of a segment begins
 --     BySegments, again-inside, again-whole     the loop over segments, and what it comes to where there is no room
--- Assumes nothing.
 use mathlib.Core.Path.{_≡_, sym, ap, ap₂, _∙_, subst}
 use Prim.Native.Nat.{ℕ, suc, _+_, _-_, _*_, _≤_, _<_}
 use native.Mathlib.Nat.{add-zero}
@@ -31,7 +30,7 @@ use Rattle.walk.specs.declared.cursor.Cursor.{Cursor}
 use Rattle.walk.specs.Code.{numbers, placesOf, numbers-back, Walking, spotOf}
 use Rattle.walk.specs.Code.Load.{loadedFrom}
 use Rattle.walk.specs.Code.Turns.{here-whole}
-use Rattle.list.specs.Stops.{Stop, stopsIn, positionOf, GatheredFrom}
+use Rattle.list.specs.Stops.{NamedStop, stopsIn, positionOf, GatheredFrom}
 use Rattle.list.specs.Stops.Laws.{seenAt, thenOn, then-lost, then-rest, walk-stops, Right, stops-right}
 use Rattle.list.specs.Steps.{onward}
 use Rattle.list.specs.Page.{soFar}
@@ -46,13 +45,13 @@ module _ (t : List ℕ) where
   page-passes v c w u = rw u
 
   -- and the record of a stop is written where there is room
-  page-one : {p : Stop} → Right t p → (count : ℕ) (out : List ℕ) → 24 * count + 24 ≤ length out
+  page-one : {p : NamedStop} → Right t p → (count : ℕ) (out : List ℕ) → 24 * count + 24 ≤ length out
       → pageVisit t (p .selector) (p .spot) (soFar count out) ≡ go (soFar (count + 1) (put out (24 * count) (listedBytes (recordFrom t (positionOf t p)))))
   unfolding pageVisit write
   page-one r count out l =
       rw (r .clear, le-leb (24 * count + 24) (length out) l) (ap (λ (e : Record). go (soFar (count + 1) (put out (24 * count) (listedBytes e)))) (sym (r .is)))
 
-  pub tour-page : (ps : List Stop) → All (Right t) ps → (count : ℕ) (out : List ℕ) (rest : Written → Walked Written (Written × Spot)) → 24 * (count + length ps) ≤ length out
+  pub tour-page : (ps : List NamedStop) → All (Right t) ps → (count : ℕ) (out : List ℕ) (rest : Written → Walked Written (Written × Spot)) → 24 * (count + length ps) ≤ length out
       → tourThen (seenAt (pageVisit t)) ps (soFar count out) rest ≡ rest (soFar (count + length ps) (putAll t (map (positionOf t) ps) count out))
   unfolding tourThen after putAll
   tour-page [] r count out rest l = ap (λ (k : ℕ). rest (soFar k out)) (sym (add-zero count))
@@ -71,7 +70,7 @@ module _ {t x : List ℕ} {d n slots g₀ s₀ : ℕ} {places₀ : List Place} {
   abbrev rest : Written → Walked Written (Written × Spot)
   rest = walkSegments t x (pageVisit t) (n - (g + 1)) (g + 1)
 
-  abbrev stops : List Stop
+  abbrev stops : List NamedStop
   stops = stopsIn t x (d - s) g s (numbers places)
 
   from : GatheredFrom t x d g s places 0 ats₀ k stop ats
@@ -86,7 +85,7 @@ module _ {t x : List ℕ} {d n slots g₀ s₀ : ℕ} {places₀ : List Place} {
   room-for : 24 * (count + k) ≤ length out
   room-for = let m = i .room in omega arith
 
-  -- the page behind the stops
+  -- the page after the stops
   behind : walkSelectors t x (pageVisit t) (d - s) g s (numbers places) (soFar count out) rest ≡ thenOn rest g stop d (soFar (count + k) after)
   behind =
       let high = i .here .on .high in
@@ -97,7 +96,7 @@ module _ {t x : List ℕ} {d n slots g₀ s₀ : ℕ} {places₀ : List Place} {
       ∙ ap₂ (λ (b : ℕ) (bs : List ℕ). thenOn rest g stop d (soFar (count + b) (putAll t bs count out))) many (sym gathered)
       ∙ ap (λ (o : List ℕ). thenOn rest g stop d (soFar (count + k) o)) (sym wrote)
 
-  -- it goes on behind the segment,
+  -- it goes on after the segment,
   pub paging-on : d ≤ stop → Paging t x d n slots g₀ s₀ places₀ count₀ out₀ g d places (count + k) after
   unfolding walkSelectors
   paging-on l =

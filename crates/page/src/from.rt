@@ -1,18 +1,18 @@
 // Page: key and value of each visible record from a cursor on, as far as there is room.
 use index::SegmentNo;
 use index::frame::segment_at;
+use list::points::Halt;
 use list::points::Paged;
-use list::points::Stop;
 use list::points::put_all;
 use list::points::write_point;
 use list::stops::gather;
-use number::wide_size;
+use number::usize_of_u8;
 use tray::Place;
 use tray::RunNo;
 use walk::cursor::Cursor;
 use walk::cursor::load;
+use walk::cursor::place_numbers;
 use walk::cursor::reload;
-use walk_cursor::place_numbers;
 ghost use mathlib.Core.Path.{_≡_};
 ghost use Prim.Native.Nat.{_+_, _*_, _≤_, _<_};
 ghost use lib.ListN.{length};
@@ -31,7 +31,7 @@ fn more(count: usize, g: u32, s: usize, places: [Place; 63]) -> Paged
     ensures { λ r. ⌜ Says r (λ o. stayed (soFar count o, spotAt g s places)) ⌝ }
 {
     Paged {
-        stop: Stop::More,
+        stop: Halt::More,
         count,
         cursor: Cursor {
             segment: SegmentNo(g),
@@ -56,7 +56,7 @@ fn page_lost(count: usize, g: u32, s: usize) -> Paged
     ensures { λ r. ⌜ Says r (λ o. lost g s (soFar count o)) ⌝ }
 {
     Paged {
-        stop: Stop::Lost(g, s as u32),
+        stop: Halt::Lost(g, s as u32),
         count,
         cursor: no_cursor(),
     }
@@ -67,7 +67,7 @@ fn page_end(count: usize, n: u32) -> Paged
     ensures { λ r. ⌜ Says r (λ o. ended (soFar count o)) ⌝ }
 {
     Paged {
-        stop: Stop::End,
+        stop: Halt::End,
         count,
         cursor: Cursor {
             segment: SegmentNo(n),
@@ -99,11 +99,11 @@ fn page_on(
     let slots = out.len() / 24;
     let mut count = wrote;
     let mut g = from.segment.0;
-    let size = wide_size(d);
-    let mut s = wide_size(from.selector);
+    let size = usize_of_u8(d);
+    let mut s = usize_of_u8(from.selector);
     let mut places = from.places;
     'walk: loop {
-        let first = segment_at(SegmentNo(g), h, d) + 8 + 2 * wide_size(h);
+        let first = segment_at(SegmentNo(g), h, d) + 8 + 2 * usize_of_u8(h);
         while s < size {
             let v = x[first + s];
             if v == 63 {
@@ -112,7 +112,7 @@ fn page_on(
             }
             let r = v % 64;
             if r < h {
-                let i = wide_size(r);
+                let i = usize_of_u8(r);
                 let p = places[i];
                 let q = p.0;
                 if q < counts[i] {
@@ -179,7 +179,7 @@ fn page_segments(
     ensures { λ r. ⌜ pagedOf r (now (out .exit)) ≡ walkFrom (now (t .entry)) (now (x .entry)) (pageVisit (now (t .entry))) (spotOf from) (soFar 0 (now (out .entry))) ⌝ }
 {
     let room = out.len() / 24;
-    let size = wide_size(d);
+    let size = usize_of_u8(d);
     let mut ats: [usize; 128] = [0; 128];
     let mut count: usize = 0;
     let mut g = from.segment.0;
@@ -187,7 +187,7 @@ fn page_segments(
     let held = from.places;
     let mut places = place_numbers(held);
     loop {
-        let at = wide_size(s);
+        let at = usize_of_u8(s);
         let m = gather(
             t,
             x,
@@ -241,7 +241,7 @@ pub fn page_from(
     ensures { λ r. ⌜ pagedOf r (now (out .exit)) ≡ walkFrom (now (t .entry)) (now (x .entry)) (pageVisit (now (t .entry))) (spotOf from) (begun (now (out .entry))) ⌝ }
 {
     if d <= 128 {
-        if wide_size(d) <= out.len() / 24 {
+        if usize_of_u8(d) <= out.len() / 24 {
             return page_segments(t, x, h, d, n, counts, starts, from, out);
         }
     }

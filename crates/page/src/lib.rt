@@ -3,19 +3,19 @@ pub mod from;
 
 use crate::from::page_from;
 use answers::PageAnswer;
-use answers::Pages;
+use answers::PagedAnswer;
 use index::SegmentNo;
 use index::frame::IndexFrame;
 use index::frame::index_frame;
+use list::points::Halt;
 use list::points::Paged;
-use list::points::Stop;
 use refusal::Refusal;
 use tray::Place;
 use tray::frame::TrayFrame;
 use tray::frame::tray_frame;
 use walk::cursor::Cursor;
+use walk::cursor::place_numbers;
 use walk_cursor::belongs;
-use walk_cursor::place_numbers;
 ghost use mathlib.Core.Path.{_≡_};
 ghost use Rattle.tray.specs.Frame.{Opened};
 ghost use Rattle.index.specs.Layout.Code.{Laid};
@@ -23,10 +23,10 @@ ghost use Rattle.answers.specs.Page.{pageAnswer, pageFramed, pageLeaves, leftFr
 ghost use Rattle.page.specs.Code.{toldPage, endedAfter};
 
 // A page that is refused after it wrote some records: it hands back the cursor that it was given.
-fn page_refused(cursor: Cursor, count: usize, r: Refusal) -> Pages
+fn page_refused(cursor: Cursor, count: usize, r: Refusal) -> PagedAnswer
     ensures { λ p. ⌜ p ≡ refusedAfter cursor count r ⌝ }
 {
-    Pages {
+    PagedAnswer {
         answer: PageAnswer::Refused(r),
         count,
         cursor,
@@ -34,10 +34,10 @@ fn page_refused(cursor: Cursor, count: usize, r: Refusal) -> Pages
 }
 
 // A page that comes to the end of an index of n segments.
-fn page_ends(count: usize, n: u32) -> Pages
+fn page_ends(count: usize, n: u32) -> PagedAnswer
     ensures { λ p. ⌜ p ≡ endedAfter n count ⌝ }
 {
-    Pages {
+    PagedAnswer {
         answer: PageAnswer::End,
         count,
         cursor: Cursor {
@@ -49,22 +49,22 @@ fn page_ends(count: usize, n: u32) -> Pages
 }
 
 // What a walk from a cursor came to, as page tells it, for an index of n segments.
-fn told_page(from: Cursor, p: Paged, n: u32) -> Pages
+fn told_page(from: Cursor, p: Paged, n: u32) -> PagedAnswer
     ensures { λ r. ⌜ r ≡ toldPage n from p ⌝ }
 {
     let stop = p.stop;
     let count = p.count;
     match stop {
-        Stop::More => {
+        Halt::More => {
             let cursor = p.cursor;
-            Pages {
+            PagedAnswer {
                 answer: PageAnswer::More,
                 count,
                 cursor,
             }
         }
-        Stop::End => page_ends(count, n),
-        Stop::Lost(g, s) => page_refused(from, count, Refusal::Lost(g, s)),
+        Halt::End => page_ends(count, n),
+        Halt::Lost(g, s) => page_refused(from, count, Refusal::Lost(g, s)),
     }
 }
 
@@ -77,7 +77,7 @@ fn page_framed(
     n: u32,
     from: Cursor,
     out: &mut [u8],
-) -> Pages
+) -> PagedAnswer
     requires { ⌜ Opened (now t) f ⌝ }
     requires { ⌜ Laid (now t) (now x) d n ⌝ }
     ensures { λ r. ⌜ r ≡ pageFramed (now (t .entry)) (now (x .entry)) from (now (out .entry)) ⌝ }
@@ -105,7 +105,7 @@ fn page_framed(
 
 // Page: how many records were written from the first visible one at or after the cursor on, and where the first unwritten one stands; refusals
 // 1, 4, 11, 10.
-pub fn page(t: &[u8], x: &[u8], from: Cursor, out: &mut [u8]) -> Pages
+pub fn page(t: &[u8], x: &[u8], from: Cursor, out: &mut [u8]) -> PagedAnswer
     ensures { λ r. ⌜ r ≡ pageAnswer (now (t .entry)) (now (x .entry)) from (now (out .entry)) ⌝ }
     ensures { λ _. ⌜ now (out .exit) ≡ pageLeaves (now (t .entry)) (now (x .entry)) from (now (out .entry)) ⌝ }
 {

@@ -1,4 +1,4 @@
--- Number and figure of each refusal (document 01, "Refusals by number"). Assumes nothing.
+-- Number and figure of each refusal (docs/RULES.md, "Refusals by number").
 use Prim.Native.Nat.{ℕ, _+_, _*_}
 use Rattle.refusal.specs.declared.Refusal.{Refusal}
 use Rattle.refusal.specs.declared.Refusal.the-variants.{TrayFrame, KeyOrder, RecordKind, IndexFrame, Segment, SegmentSize, Room, Bounds, PrefixEnd, Lost, Cursor, RunLength}

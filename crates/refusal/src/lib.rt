@@ -1,4 +1,4 @@
-// Why a call refuses: the table of document 01, "Refusals by number", as one enum, so that each refusal is made in one way.
+// Why a call refuses: the table of docs/RULES.md, "Refusals by number", as one enum, so that each refusal is made in one way.
 ghost use mathlib.Core.Path.{_≡_};
 ghost use Rattle.refusal.specs.Table.{lostFigure, verdictOf};
 

@@ -1,11 +1,11 @@
 // Seek: the first record at or above a key where the walk stays.
 use index::SegmentNo;
 use index::frame::segment_at;
-use index_check::selector::head_of;
-use number::wide_size;
-use number::wide32;
+use number::u32_of_u8;
+use number::usize_of_u8;
 use tray::Place;
 use tray::RunNo;
+use tray::run::head_of;
 use walk::cursor::Cursor;
 use walk::cursor::Sight;
 use walk::cursor::Sought;
@@ -36,7 +36,7 @@ pub fn found(g: u32, s: u8, places: [Place; 63], v: u8) -> Sought
     requires { ⌜ v < 63 ⌝ }
     ensures { λ r. ⌜ soughtOf r ≡ sightOf g s places v ⌝ }
 {
-    let i = wide_size(v);
+    let i = usize_of_u8(v);
     Sought {
         sight: Sight::Found(RunNo(v), places[i]),
         cursor: Cursor {
@@ -61,7 +61,7 @@ pub fn lost_at(g: u32, s: u8) -> Sought
     ensures { λ r. ⌜ soughtOf r ≡ lostAt g s ⌝ }
 {
     Sought {
-        sight: Sight::Lost(g, wide32(s)),
+        sight: Sight::Lost(g, u32_of_u8(s)),
         cursor: no_cursor(),
     }
 }
@@ -103,17 +103,17 @@ pub fn seek_from(
         }
         let at = segment_at(SegmentNo(g), h, d);
         let mut places = load(x, at, h);
-        let first = at + 8 + 2 * wide_size(h);
+        let first = at + 8 + 2 * usize_of_u8(h);
         let mut s: u8 = 0;
         while s < d {
-            let v = x[first + wide_size(s)];
+            let v = x[first + usize_of_u8(s)];
             if v == 63 {
                 s += 1;
                 continue;
             }
             let r = v % 64;
             if r < h {
-                let i = wide_size(r);
+                let i = usize_of_u8(r);
                 let p = places[i];
                 let q = p.0;
                 if q < counts[i] {

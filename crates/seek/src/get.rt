@@ -1,9 +1,11 @@
 // Get: the value of a key, or absent.
 use crate::from::seek_from;
+use answers::GetAnswer;
+use answers::ValueAnswer;
 use index::frame::IndexFrame;
 use index::frame::index_frame;
 use number::big8;
-use number::wide_size;
+use number::usize_of_u8;
 use refusal::Refusal;
 use tray::Place;
 use tray::RunNo;
@@ -11,29 +13,27 @@ use tray::frame::TrayFrame;
 use tray::frame::tray_frame;
 use tray::run::key_at;
 use tray::run::value_at;
-use walk::GetAnswer;
-use walk::Gets;
 use walk::begin::start_at;
 use walk::cursor::Sight;
 ghost use mathlib.Core.Path.{_≡_};
 ghost use Prim.Native.Nat.{_<_};
 ghost use Rattle.tray.specs.Frame.{runCount, countOf, Starts, Opened};
 ghost use Rattle.index.specs.Layout.Code.{Laid};
-ghost use Rattle.walk.specs.Answers.{getAnswer, getFramed, valueless};
-ghost use Rattle.walk.specs.Code.Get.{valueIf, nothingAt};
+ghost use Rattle.answers.specs.Get.{getAnswer, getFramed, valueless};
+ghost use Rattle.answers.specs.Get.Code.{valueIf, nothingAt};
 
 // An answer without a value.
-fn no_value(answer: GetAnswer) -> Gets
+fn no_value(answer: GetAnswer) -> ValueAnswer
     ensures { λ r. ⌜ r ≡ valueless answer ⌝ }
 {
-    Gets {
+    ValueAnswer {
         answer,
         value: [0u8; 16],
     }
 }
 
 // A seek that found nothing: absent at the end, refused where it is lost.
-fn found_nothing(sight: Sight) -> Gets
+fn found_nothing(sight: Sight) -> ValueAnswer
     ensures { λ r. ⌜ r ≡ nothingAt sight ⌝ }
 {
     match sight {
@@ -44,17 +44,17 @@ fn found_nothing(sight: Sight) -> Gets
 }
 
 // The value of a record found, where its key is the one asked for. The first record where the walk stays decides.
-fn value_if(t: &[u8], starts: &[usize], run: RunNo, place: Place, key: u64) -> Gets
+fn value_if(t: &[u8], starts: &[usize], run: RunNo, place: Place, key: u64) -> ValueAnswer
     requires { ⌜ Starts (now t) (now starts) ⌝ }
     requires { ⌜ (run .0 < runCount (now t)) × (place .0 < countOf (now t) (run .0)) ⌝ }
     ensures { λ r. ⌜ r ≡ valueIf (now (t .entry)) (run .0) (place .0) key ⌝ }
 {
     let n = run.0;
-    let i = wide_size(n);
+    let i = usize_of_u8(n);
     let a = starts[i];
     let e = starts[i + 1];
     if key_at(&t[a..e], place) == key {
-        return Gets {
+        return ValueAnswer {
             answer: GetAnswer::Found,
             value: value_at(&t[a..e], place),
         };
@@ -63,7 +63,7 @@ fn value_if(t: &[u8], starts: &[usize], run: RunNo, place: Place, key: u64) -> G
 }
 
 // Get where both frames fit.
-fn get_framed(t: &[u8], x: &[u8], f: TrayFrame, d: u8, n: u32, key: u64) -> Gets
+fn get_framed(t: &[u8], x: &[u8], f: TrayFrame, d: u8, n: u32, key: u64) -> ValueAnswer
     requires { ⌜ Opened (now t) f ⌝ }
     requires { ⌜ Laid (now t) (now x) d n ⌝ }
     ensures { λ r. ⌜ r ≡ getFramed (now (t .entry)) (now (x .entry)) key ⌝ }
@@ -81,7 +81,7 @@ fn get_framed(t: &[u8], x: &[u8], f: TrayFrame, d: u8, n: u32, key: u64) -> Gets
 }
 
 // Get: the value where a seek finds the very key, and else absent; refusals 1, 4, 10.
-pub fn get(t: &[u8], x: &[u8], key: &[u8; 8]) -> Gets
+pub fn get(t: &[u8], x: &[u8], key: &[u8; 8]) -> ValueAnswer
     ensures { λ r. ⌜ r ≡ getAnswer (now (t .entry)) (now (x .entry)) (now (key .entry)) ⌝ }
 {
     let f = tray_frame(t);

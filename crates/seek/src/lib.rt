@@ -3,6 +3,8 @@ pub mod from;
 pub mod get;
 
 use crate::from::seek_from;
+use answers::CursorAnswer;
+use answers::SeekAnswer;
 use index::SegmentNo;
 use index::frame::IndexFrame;
 use index::frame::index_frame;
@@ -11,8 +13,6 @@ use refusal::Refusal;
 use tray::Place;
 use tray::frame::TrayFrame;
 use tray::frame::tray_frame;
-use walk::SeekAnswer;
-use walk::Seeks;
 use walk::begin::start_at;
 use walk::cursor::Cursor;
 use walk::cursor::Sight;
@@ -20,13 +20,13 @@ use walk::cursor::Sought;
 ghost use mathlib.Core.Path.{_≡_};
 ghost use Rattle.tray.specs.Frame.{Opened};
 ghost use Rattle.index.specs.Layout.Code.{Laid};
-ghost use Rattle.walk.specs.Answers.{seekAnswer, seekFramed, toldSeek, refusedSeek};
+ghost use Rattle.answers.specs.Seek.{seekAnswer, seekFramed, toldSeek, refusedSeek};
 
 // A refused seek.
-fn seek_refused(r: Refusal) -> Seeks
+fn seek_refused(r: Refusal) -> CursorAnswer
     ensures { λ s. ⌜ s ≡ refusedSeek r ⌝ }
 {
-    Seeks {
+    CursorAnswer {
         answer: SeekAnswer::Refused(r),
         cursor: Cursor {
             segment: SegmentNo(0),
@@ -37,19 +37,19 @@ fn seek_refused(r: Refusal) -> Seeks
 }
 
 // What a walk came to, as seek tells it, for an index of n segments.
-fn told_seek(s: Sought, n: u32) -> Seeks
+fn told_seek(s: Sought, n: u32) -> CursorAnswer
     ensures { λ r. ⌜ r ≡ toldSeek n s ⌝ }
 {
     let sight = s.sight;
     match sight {
         Sight::Found(run, place) => {
             let cursor = s.cursor;
-            Seeks {
+            CursorAnswer {
                 answer: SeekAnswer::Found(run, place),
                 cursor,
             }
         }
-        Sight::End => Seeks {
+        Sight::End => CursorAnswer {
             answer: SeekAnswer::End,
             cursor: Cursor {
                 segment: SegmentNo(n),
@@ -62,7 +62,7 @@ fn told_seek(s: Sought, n: u32) -> Seeks
 }
 
 // Seek where both frames fit.
-fn seek_framed(t: &[u8], x: &[u8], f: TrayFrame, d: u8, n: u32, key: u64) -> Seeks
+fn seek_framed(t: &[u8], x: &[u8], f: TrayFrame, d: u8, n: u32, key: u64) -> CursorAnswer
     requires { ⌜ Opened (now t) f ⌝ }
     requires { ⌜ Laid (now t) (now x) d n ⌝ }
     ensures { λ r. ⌜ r ≡ seekFramed (now (t .entry)) (now (x .entry)) key ⌝ }
@@ -75,7 +75,7 @@ fn seek_framed(t: &[u8], x: &[u8], f: TrayFrame, d: u8, n: u32, key: u64) -> See
 }
 
 // Seek: the first record at or above a key, or the end; refusals 1, 4, 10.
-pub fn seek(t: &[u8], x: &[u8], key: &[u8; 8]) -> Seeks
+pub fn seek(t: &[u8], x: &[u8], key: &[u8; 8]) -> CursorAnswer
     ensures { λ r. ⌜ r ≡ seekAnswer (now (t .entry)) (now (x .entry)) (now (key .entry)) ⌝ }
 {
     let f = tray_frame(t);

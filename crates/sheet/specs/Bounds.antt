@@ -2,7 +2,6 @@
 --     Filling, filling-none, filling-more, filling-end      the loop that copies
 --     be-raised                                             a byte raised by one
 --     filled-long, high-set                                 the upper bound
--- Assumes nothing.
 use mathlib.Core.Path.{_≡_, refl, sym, ap, ap₂, _∙_}
 use Prim.Native.Nat.{ℕ, suc, _+_, _-_, _*_, _^_, _≤_, _<_}
 use native.Mathlib.Nat.{zero-add, suc-mul}

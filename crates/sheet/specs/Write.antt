@@ -4,7 +4,6 @@
 --     gives-lost, gives-bound, gives-end     both passes
 --     gives-none, gives-past, gives-found    after the seek
 --     framed-none, framed-long, framed-last, framed-gives     the prefix
--- Assumes nothing.
 use mathlib.Core.Path.{_≡_, refl, sym, ap, ap₂, _∙_, subst}
 use Prim.Native.Nat.{ℕ, _+_, _-_, _*_, _≤_, _<_}
 use native.Mathlib.Nat.{zero-add}
@@ -25,17 +24,17 @@ use Rattle.walk.specs.declared.cursor.Sight.{Sight}
 use Rattle.walk.specs.declared.cursor.Sight.the-variants.{Found as SightFound, End as SightEnd, Lost as SightLost}
 use Rattle.walk.specs.declared.cursor.Sought.{Sought}
 use Rattle.walk.specs.Start.{start}
-use Rattle.walk.specs.Walk.{Spot, stay, Walked, stayed, lost, walkFrom, walkSegments}
+use Rattle.walk.specs.Walk.{Spot, stay, Walked, stayed, walkFrom, walkSegments}
 use Rattle.walk.specs.Reads.{Found, unmarked, recordBy, lowKey, highKey, seekVisit, seek, pageVisit, sheetVisit, sheetFrom, sheet}
 use Rattle.walk.specs.Reads.Page.{listing, written, length-listing}
 use Rattle.walk.specs.Reads.Sheet.{Lists}
 use Rattle.walk.specs.Reads.Sheet.Lists.{to-bound, to-end}
 use Rattle.walk.specs.Code.{Walking, spotOf, soughtAs, soughtOf}
-use Rattle.walk.specs.Code.Get.{came}
+use Rattle.answers.specs.Get.Code.{came}
 use Rattle.walk.specs.Code.Stayed.{Stands, walk-stays}
 use Rattle.walk.specs.Code.Inside.{seek-inside}
-use Rattle.list.specs.declared.points.Stop.{Stop}
-use Rattle.list.specs.declared.points.Stop.the-variants.{More, End, Lost as StopLost}
+use Rattle.list.specs.declared.points.Halt.{Halt}
+use Rattle.list.specs.declared.points.Halt.the-variants.{More, End, Lost as StopLost}
 use Rattle.list.specs.declared.points.Paged.{Paged}
 use Rattle.sheet_count.specs.declared.Counted.{Counted}
 use Rattle.list.specs.Page.{begun, pagedOf}
@@ -138,8 +137,8 @@ module _ (t x : List ℕ) (high : ℕ) (c : Spot) (q : Counted) {ats : List ℕ}
   abbrev walk : Walked (List Record) (List Record)
   walk = walkFrom t x (sheetVisit t high) c []
 
-  told : {s : Stop} → q .stop ≡ s → countedAs s (h .records) ≡ walk
-  told e = sym (ap (λ (s : Stop). countedAs s (h .records)) e) ∙ h .same
+  told : {s : Halt} → q .stop ≡ s → countedAs s (h .records) ≡ walk
+  told e = sym (ap (λ (s : Halt). countedAs s (h .records)) e) ∙ h .same
 
   -- the first is lost,
   pub gives-lost : (out : List ℕ) {g s : ℕ} → q .stop ≡ StopLost g s → Gives (walkFrom t x (sheetVisit t high) c []) out out (Refused (Lost g s))

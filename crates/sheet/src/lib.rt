@@ -1,4 +1,4 @@
-// Sheet (document 01, "Reading through an index"): it seeks the prefix filled with zeros and lists each record where the walk stays, until the
+// Sheet (docs/RULES.md, "Reading through an index"): it seeks the prefix filled with zeros and lists each record where the walk stays, until the
 // first key at or above the prefix with its last byte raised by one, filled with zeros. It tests the frames, the prefix and every place that it
 // follows, and writes only once it is sure.
 pub mod bounds;
@@ -10,13 +10,13 @@ use crate::write::write_counted;
 use answers::SheetAnswer;
 use index::frame::IndexFrame;
 use index::frame::index_frame;
-use index_check::selector::head_of;
-use list::points::Stop;
+use list::points::Halt;
 use refusal::Refusal;
 use seek::from::seek_from;
 use sheet_count::count_from;
 use tray::frame::TrayFrame;
 use tray::frame::tray_frame;
+use tray::run::head_of;
 use walk::begin::start_at;
 use walk::cursor::Cursor;
 use walk::cursor::Sight;
@@ -68,9 +68,9 @@ fn list_from(
     let held = counted.held;
     let count = counted.count;
     match stop {
-        Stop::Lost(g, s) => SheetAnswer::Refused(Refusal::Lost(g, s)),
-        Stop::More => write_counted(t, x, h, d, n, counts, starts, from, &ats, held, count, out),
-        Stop::End => write_counted(t, x, h, d, n, counts, starts, from, &ats, held, count, out),
+        Halt::Lost(g, s) => SheetAnswer::Refused(Refusal::Lost(g, s)),
+        Halt::More => write_counted(t, x, h, d, n, counts, starts, from, &ats, held, count, out),
+        Halt::End => write_counted(t, x, h, d, n, counts, starts, from, &ats, held, count, out),
     }
 }
 

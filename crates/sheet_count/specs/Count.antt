@@ -1,4 +1,4 @@
--- How many records sheet lists, as the code hands it over. Assumes nothing.
+-- How many records sheet lists, as the code hands it over.
 pub mod Code
 use mathlib.Core.Path.{_≡_}
 use Prim.Native.Nat.{ℕ, _≤_, _<_}
@@ -8,8 +8,8 @@ use Rattle.theory.specs.Records.{Record}
 use Rattle.tray.specs.Run.{recordFrom}
 use Rattle.walk.specs.Walk.{Walked, stayed, ended, lost}
 use Rattle.list.specs.Stops.{Within}
-use Rattle.list.specs.declared.points.Stop.{Stop}
-use Rattle.list.specs.declared.points.Stop.the-variants.{More, End, Lost}
+use Rattle.list.specs.declared.points.Halt.{Halt}
+use Rattle.list.specs.declared.points.Halt.the-variants.{More, End, Lost}
 use Rattle.sheet_count.specs.declared.Counted.{Counted}
 
 -- of the records that start at these bytes of the tray, r is the first from one on whose key is at or above the bound, or their end
@@ -20,7 +20,7 @@ pub record Past (t ats : List ℕ) (from to high r : ℕ) : Type 0 where
   pub past : r < to → high ≤ recordFrom t (getD ats r 0) .key
 
 -- what a count's end says, with the records that it passed
-unfoldable pub countedAs : Stop → List Record → Walked (List Record) (List Record)
+unfoldable pub countedAs : Halt → List Record → Walked (List Record) (List Record)
 countedAs More es = stayed es
 countedAs End es = ended es
 countedAs (Lost g s) es = lost g s es

@@ -3,7 +3,6 @@
 --     second-bound, second-end    what the page comes to
 --     second-listed               what its code leaves in the output: the records that the first pass lists
 --     written-count, written-out, written-whole     how many records it wrote, and what stands in the output
--- Assumes nothing.
 use mathlib.Core.Path.{_≡_, refl, sym, ap, _∙_, subst}
 use Prim.Native.Nat.{ℕ, zero, suc, _+_, _-_, _*_, _≤_}
 use native.Mathlib.Nat.{zero-add}
@@ -26,8 +25,8 @@ use Rattle.walk.specs.Reads.Page.{listing, written, write-more, written-length,
 use Rattle.walk.specs.Reads.Sheet.{Lists}
 use Rattle.walk.specs.Reads.Sheet.Lists.{to-bound, to-end}
 use Rattle.walk.specs.Code.{spotOf}
-use Rattle.list.specs.declared.points.Stop.{Stop}
-use Rattle.list.specs.declared.points.Stop.the-variants.{More, End, Lost}
+use Rattle.list.specs.declared.points.Halt.{Halt}
+use Rattle.list.specs.declared.points.Halt.the-variants.{More, End, Lost}
 use Rattle.list.specs.declared.points.Paged.{Paged}
 use Rattle.list.specs.Page.{soFar, begun, pagedAs, pagedOf}
 
@@ -167,7 +166,7 @@ out-paged : (r : Paged) (out : List ℕ) → outAt (pagedOf r out) ≡ out
 unfolding outAt pagedOf pagedAs
 out-paged r out = by-stop (r .stop)
   where
-    by-stop : (s : Stop) → outAt (pagedAs s (soFar (r .count) out) (spotOf (r .cursor))) ≡ out
+    by-stop : (s : Halt) → outAt (pagedAs s (soFar (r .count) out) (spotOf (r .cursor))) ≡ out
     by-stop More = refl
     by-stop End = refl
     by-stop (Lost g s) = refl

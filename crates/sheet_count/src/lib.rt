@@ -2,14 +2,14 @@
 // stand as long as there is room for those of a segment.
 use index::SegmentNo;
 use index::frame::segment_at;
-use list::points::Stop;
+use list::points::Halt;
 use list::stops::gather;
-use number::wide_size;
+use number::usize_of_u8;
 use tray::Place;
 use tray::run::key_at;
 use walk::cursor::Cursor;
+use walk::cursor::place_numbers;
 use walk::cursor::reload;
-use walk_cursor::place_numbers;
 ghost use mathlib.Core.Path.{_≡_};
 ghost use mathlib.Core.Bool.{cond};
 ghost use mathlib.Core.List.{[]};
@@ -26,7 +26,7 @@ ghost use Rattle.sheet_count.specs.Count.{Past, Counts};
 // The end of a count: where the walk stopped, how many records it passed that are to be listed, and how many of them, the last ones, are
 // remembered.
 pub struct Counted {
-    pub stop: Stop,
+    pub stop: Halt,
     pub count: usize,
     pub held: usize,
 }
@@ -49,7 +49,7 @@ fn first_past(t: &[u8], ats: &[usize], from: usize, to: usize, high: u64) -> usi
 }
 
 // So many are remembered where there is room for more, and else none.
-fn fitting(held: usize, more: usize, room: usize) -> usize
+fn slots_kept(held: usize, more: usize, room: usize) -> usize
     requires { ⌜ (held ≤ room) × (more ≤ room) ⌝ }
     ensures { λ r. ⌜ r ≡ cond (leb (held + more) room) held 0 ⌝ }
     ensures { λ r. ⌜ r + more ≤ room ⌝ }
@@ -80,7 +80,7 @@ pub fn count_from(
     ensures { λ r. ⌜ r .count ≤ 256 * n ⌝ }
 {
     let room = ats.len();
-    let size = wide_size(d);
+    let size = usize_of_u8(d);
     let mut count: usize = 0;
     let mut held: usize = 0;
     let mut g = from.segment.0;
@@ -88,8 +88,8 @@ pub fn count_from(
     let first = from.places;
     let mut places = place_numbers(first);
     loop {
-        let at = wide_size(s);
-        let before = fitting(held, size - at, room);
+        let at = usize_of_u8(s);
+        let before = slots_kept(held, size - at, room);
         let m = gather(
             t,
             x,
@@ -109,7 +109,7 @@ pub fn count_from(
         count += held - before;
         if held < k {
             return Counted {
-                stop: Stop::More,
+                stop: Halt::More,
                 count,
                 held,
             };
@@ -117,7 +117,7 @@ pub fn count_from(
         let stop = m.stop;
         if stop < size {
             return Counted {
-                stop: Stop::Lost(g, stop as u32),
+                stop: Halt::Lost(g, stop as u32),
                 count,
                 held,
             };
@@ -125,7 +125,7 @@ pub fn count_from(
         g += 1;
         if n <= g {
             return Counted {
-                stop: Stop::End,
+                stop: Halt::End,
                 count,
                 held,
             };

@@ -1,7 +1,6 @@
 -- A cursor as 66 numbers of 16 bits: the segment's high and low half, the selector, and 63 places.
 --     spotIn, cursorIn          the cursor that they stand for
 --     cursorNumbers             the numbers of a cursor
--- Assumes nothing.
 pub mod Laws
 use Prim.Native.Nat.{ℕ, _+_, _*_, _/_, _%_}
 use mathlib.Core.List.{List, _∷_}
@@ -9,7 +8,7 @@ use lib.ListN.{getD, drop}
 use Rattle.walk.specs.declared.cursor.Cursor.{Cursor}
 use Rattle.walk.specs.Walk.{Spot}
 use Rattle.walk.specs.Code.{numbers}
-use Rattle.walk.specs.Answers.{cursorOf}
+use Rattle.answers.specs.Quick.{cursorOf}
 
 unfoldable pub spotIn : List ℕ → Spot
 spotIn ns = record { segment = getD ns 0 0 * 65536 + getD ns 1 0; selector = getD ns 2 0; places = drop 3 ns }

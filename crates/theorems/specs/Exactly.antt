@@ -1,4 +1,4 @@
--- The table of document 01 ("Refusals by number"), call by call in the orders that it gives: when each number and figure is answered. A row each;
+-- The table of refusals (docs/RULES.md, "Refusals by number"), call by call in the orders that it gives: when each number and figure is answered. A row each;
 -- a call answers a number and a figure exactly when one of its rows does. 0 is no refusal.
 --     TraySays, tray-exactly        check tray: 1, 3/2
 --     IndexSays, index-exactly      check index: 1, 3/2, 4, 5
@@ -9,7 +9,6 @@
 --     PageSays, page-exactly        page: 1, 4, 11, 10
 --     SheetSays, sheet-exactly      sheet: 1, 4, 8, 9, 10, 7
 --     FoldSays, fold-exactly        fold: 1, 8, 3/2, 12, 7
--- Assumes nothing.
 pub mod Quick
 use mathlib.Core.Path.{_≡_, refl, sym, ap, _∙_, subst}
 use mathlib.Core.Logic.{_↔_, _⊎_}
@@ -24,7 +23,7 @@ use Rattle.refusal.specs.Table.{told, verdictOf}
 use Rattle.tray.specs.declared.TrayAnswer.{TrayAnswer}
 use Rattle.tray.specs.declared.TrayAnswer.the-variants.{Records, Refused as TrayRefused}
 use Rattle.tray.specs.Frame.{runCount, recordsBefore, Framed}
-use Rattle.tray.specs.Check.{checkTray, Sound, Says, refused-1, refused-2, refused-3, records}
+use Rattle.tray.specs.Check.{checkTrayAnswer, Sound, Says, refused-1, refused-2, refused-3, records}
 use Rattle.tray.specs.Check.Laws.{says}
 use Rattle.tray.specs.Check.Theorems.{answers-records, refuses-1, refuses-2, refuses-3, WrongKeyAt, WrongKindAt}
 use Rattle.tray.specs.Meaning.{runsOf}
@@ -32,11 +31,11 @@ use Rattle.index.specs.declared.IndexAnswer.{IndexAnswer}
 use Rattle.index.specs.declared.IndexAnswer.the-variants.{Segments, Refused as IndexRefused}
 use Rattle.index.specs.Layout.{segmentCount, segmentsOf, IndexFramed}
 use Rattle.index.specs.Rules.{Accepted, FirstWrong, LeftOver}
-use Rattle.index.specs.Check.{checkIndex, Says as IndexTable, refused-tray, refused-4, refused-5, left-over, accepted}
+use Rattle.index.specs.Check.{checkIndexAnswer, Says as IndexTable, refused-tray, refused-4, refused-5, left-over, accepted}
 use Rattle.index.specs.Check.Laws.{check-says}
 use Rattle.build_spec.specs.declared.BuildAnswer.{BuildAnswer}
 use Rattle.build_spec.specs.declared.BuildAnswer.the-variants.{Written as BuildWritten, Refused as BuildRefused}
-use Rattle.build_spec.specs.Build.{build}
+use Rattle.build_spec.specs.Build.{buildAnswer}
 use Rattle.build_spec.specs.Build.Theorems.{SizeFits}
 use Rattle.build_spec.specs.Build.Answers.{Builds, When, build-says}
 use Rattle.fold_spec.specs.declared.FoldAnswer.{FoldAnswer}
@@ -71,15 +70,15 @@ module _ (t : List ℕ) where
   tray-gives (refused-3 n r p f a ra u) = tray-3 n (r, p, record { frame = f; numbered = a; before = ra }, u)
   tray-gives (records s) = tray-0 s
 
-  tray-alone : (n f : ℕ) → TraySays n f → told n f ≡ trayTold (checkTray t)
+  tray-alone : (n f : ℕ) → TraySays n f → told n f ≡ trayTold (checkTrayAnswer t)
   unfolding trayTold
   tray-alone _ _ (tray-1 x) = sym (ap trayTold (refuses-1 t .1 x))
   tray-alone _ _ (tray-3 n w) = sym (ap trayTold (refuses-3 t n .1 w))
   tray-alone _ _ (tray-2 n w) = sym (ap trayTold (refuses-2 t n .1 w))
   tray-alone _ _ (tray-0 s) = sym (ap trayTold (answers-records t (recordsBefore t (runCount t)) .1 (s, refl)))
 
-  pub tray-exactly : (n f : ℕ) → (told n f ≡ trayTold (checkTray t)) ↔ TraySays n f
-  tray-exactly = exactly-by TraySays (trayTold (checkTray t)) (tray-gives (says t)) tray-alone
+  pub tray-exactly : (n f : ℕ) → (told n f ≡ trayTold (checkTrayAnswer t)) ↔ TraySays n f
+  tray-exactly = exactly-by TraySays (trayTold (checkTrayAnswer t)) (tray-gives (says t)) tray-alone
 
   module _ (x : List ℕ) where
     -- check index
@@ -96,7 +95,7 @@ module _ (t : List ℕ) where
       index-0 : Sound t → IndexFramed (runCount t) x → Accepted (runsOf t) (segmentsOf (runCount t) x) → IndexSays 0 (segmentCount x)
 
     -- what check tray refuses, as a row
-    tray-row : (r : Refusal) → checkTray t ≡ TrayRefused r → TraySays (verdictOf r .number) (verdictOf r .figure) × (0 < verdictOf r .number)
+    tray-row : (r : Refusal) → checkTrayAnswer t ≡ TrayRefused r → TraySays (verdictOf r .number) (verdictOf r .figure) × (0 < verdictOf r .number)
     unfolding trayTold
     tray-row r e =
         (subst (λ (a : TrayAnswer). TraySays (trayTold a .number) (trayTold a .figure)) e (tray-gives (says t)), refused-above r)
@@ -110,23 +109,23 @@ module _ (t : List ℕ) where
     index-gives (accepted s f w) = index-0 s f w
 
     -- a refusal of check tray is check index's too
-    tray-first : (a : TrayAnswer) → checkTray t ≡ a → 0 < trayTold a .number → trayTold a ≡ indexTold (checkIndex t x)
+    tray-first : (a : TrayAnswer) → checkTrayAnswer t ≡ a → 0 < trayTold a .number → trayTold a ≡ indexTold (checkIndexAnswer t x)
     unfolding trayTold indexTold
     tray-first (Records n) e l = absurd (omega arith)
     tray-first (TrayRefused r) e l = sym (ap indexTold (check-says t x (IndexRefused r) .1 (refused-tray r e)))
 
-    index-alone : (n f : ℕ) → IndexSays n f → told n f ≡ indexTold (checkIndex t x)
+    index-alone : (n f : ℕ) → IndexSays n f → told n f ≡ indexTold (checkIndexAnswer t x)
     unfolding indexTold
     index-alone _ _ (index-tray n f w l) =
         let e = tray-alone n f w in
-        e ∙ tray-first (checkTray t) refl (subst (λ k. 0 < k) (ap (λ (v : Verdict). v .number) e) l)
+        e ∙ tray-first (checkTrayAnswer t) refl (subst (λ k. 0 < k) (ap (λ (v : Verdict). v .number) e) l)
     index-alone _ _ (index-4 s f) = sym (ap indexTold (check-says t x (IndexRefused IndexFrame) .1 (refused-4 s f)))
     index-alone _ _ (index-5 g s f w) = sym (ap indexTold (check-says t x (IndexRefused (Segment g)) .1 (refused-5 g s f w)))
     index-alone _ _ (index-over s f w) = sym (ap indexTold (check-says t x (IndexRefused (Segment (segmentCount x))) .1 (left-over s f w)))
     index-alone _ _ (index-0 s f w) = sym (ap indexTold (check-says t x (Segments (segmentCount x)) .1 (accepted s f w)))
 
-    pub index-exactly : (n f : ℕ) → (told n f ≡ indexTold (checkIndex t x)) ↔ IndexSays n f
-    index-exactly = exactly-by IndexSays (indexTold (checkIndex t x)) (index-gives (check-says t x (checkIndex t x) .0 refl)) index-alone
+    pub index-exactly : (n f : ℕ) → (told n f ≡ indexTold (checkIndexAnswer t x)) ↔ IndexSays n f
+    index-exactly = exactly-by IndexSays (indexTold (checkIndexAnswer t x)) (index-gives (check-says t x (checkIndexAnswer t x) .0 refl)) index-alone
 
   module _ (d room : ℕ) where
     -- build
@@ -159,10 +158,10 @@ module _ (t : List ℕ) where
     build-gives (BuildRefused (Cursor n)) w = absurd w
     build-gives (BuildRefused (RunLength n)) w = absurd w
 
-    build-by : (a : BuildAnswer) → When t d room a → buildTold a ≡ buildTold (build t d room)
+    build-by : (a : BuildAnswer) → When t d room a → buildTold a ≡ buildTold (buildAnswer t d room)
     build-by a w = sym (ap buildTold (build-says t d room a .1 w))
 
-    build-alone : (n f : ℕ) → BuildSays n f → told n f ≡ buildTold (build t d room)
+    build-alone : (n f : ℕ) → BuildSays n f → told n f ≡ buildTold (buildAnswer t d room)
     unfolding buildTold
     build-alone _ _ (build-1 x) = build-by (BuildRefused TrayFrame) x
     build-alone _ _ (build-6 f s) = build-by (BuildRefused (SegmentSize d)) (f, s, refl)
@@ -171,8 +170,8 @@ module _ (t : List ℕ) where
     build-alone _ _ (build-7 n b l) = build-by (BuildRefused (Room n)) (b, l)
     build-alone _ _ (build-0 n b l) = build-by (BuildWritten n) (b, l)
 
-    pub build-exactly : (n f : ℕ) → (told n f ≡ buildTold (build t d room)) ↔ BuildSays n f
-    build-exactly = exactly-by BuildSays (buildTold (build t d room)) (build-gives (build t d room) (build-says t d room (build t d room) .0 refl)) build-alone
+    pub build-exactly : (n f : ℕ) → (told n f ≡ buildTold (buildAnswer t d room)) ↔ BuildSays n f
+    build-exactly = exactly-by BuildSays (buildTold (buildAnswer t d room)) (build-gives (buildAnswer t d room) (build-says t d room (buildAnswer t d room) .0 refl)) build-alone
 
   module _ (a b room : ℕ) where
     -- fold

@@ -4,7 +4,6 @@
 --     calls-pages          they are pages of the walk
 --     seek-standing        where seek's cursor stands
 --     pages-from           what the calls wrote
--- Assumes nothing.
 use mathlib.Core.Path.{_≡_, refl, sym, ap, ap₂, _∙_, subst}
 use Prim.Native.Nat.{ℕ, suc, _*_}
 use mathlib.Core.Bool.{Bool, true, false, cond}
@@ -20,7 +19,7 @@ use Rattle.walk.specs.declared.cursor.Cursor.{Cursor}
 use Rattle.walk.specs.Walk.{Spot, Walked, stayed, ended, lost}
 use Rattle.walk.specs.Walk.Spots.{Reading, Stop, spots}
 use Rattle.walk.specs.Walk.Tours.{firstOf}
-use Rattle.walk.specs.Reads.{Written, endSpot, belongs, page, seek}
+use Rattle.walk.specs.Reads.{Written, endSpot, belongs, page}
 use Rattle.walk.specs.Reads.Kept.{keep-split}
 use Rattle.walk.specs.Reads.Shown.{foundAt, pointOf, isShown, shown}
 use Rattle.walk.specs.Reads.Seek.{from, seek-is}
@@ -29,9 +28,10 @@ use Rattle.walk.specs.Reads.Standing.{Standing, at-stop, at-end}
 use Rattle.walk.specs.Reads.Page.{listing}
 use Rattle.walk.specs.Reads.Pages.{bytesIn, Pages, pages-end, pages-on, pages-are}
 use Rattle.walk.specs.Code.{spotOf}
-use Rattle.walk.specs.Answers.{cursorOf, inFrames, refusedSeek, seekTold, seekFramed, seekAnswer}
-use Rattle.walk.specs.Answers.Hands.{spot-back}
-use Rattle.answers.specs.declared.Pages.{Pages as Answered}
+use Rattle.answers.specs.Quick.{cursorOf, inFrames}
+use Rattle.answers.specs.Seek.{refusedSeek, seekTold, seekFramed, seekAnswer}
+use Rattle.answers.specs.Seek.Hands.{spot-back}
+use Rattle.answers.specs.declared.PagedAnswer.{PagedAnswer as Answered}
 use Rattle.answers.specs.declared.PageAnswer.{PageAnswer}
 use Rattle.answers.specs.declared.PageAnswer.the-variants.{More, End, Refused}
 use Rattle.answers.specs.Page.{refusedPage, pageTold, pageLeft, pageFramed, leftFramed, pageAnswer, pageLeaves}

@@ -5,7 +5,6 @@
 --     Point, pointAt, seek-answers     the record that seek finds, by key and value
 --     onward, onward-are          the visible records from a key on
 --     prefixed, sheet-answers, sheet-records     sheet's answer, and the records that it lists
--- Assumes nothing.
 use mathlib.Core.Path.{_≡_, refl, ap, _∙_}
 use Prim.Native.Nat.{ℕ}
 use mathlib.Core.Bool.{cond}
@@ -23,8 +22,8 @@ use Rattle.tray.specs.Frame.{runCount, runBytes}
 use Rattle.tray.specs.Frame.Laws.{fits-framed}
 use Rattle.tray.specs.Run.{recordAt}
 use Rattle.index.specs.Layout.Laws.{fits-index}
-use Rattle.walk.specs.declared.SeekAnswer.{SeekAnswer}
-use Rattle.walk.specs.declared.SeekAnswer.the-variants.{Found, End, Refused}
+use Rattle.answers.specs.declared.SeekAnswer.{SeekAnswer}
+use Rattle.answers.specs.declared.SeekAnswer.the-variants.{Found, End, Refused}
 use Rattle.walk.specs.Walk.{Walked}
 use Rattle.walk.specs.Walk.Spots.{Reading, Stop}
 use Rattle.walk.specs.Walk.Tours.{firstOf}
@@ -36,7 +35,9 @@ use Rattle.walk.specs.Reads.Seek.{isFrom, from, lookup, points, seek-is, get-is
 use Rattle.answers.specs.declared.SheetAnswer.{SheetAnswer}
 use Rattle.answers.specs.declared.SheetAnswer.the-variants.{Refused as SheetRefused}
 use Rattle.answers.specs.Sheet.{prefixLong, prefixLast, listedIn, sheetTold, recordsOf, sheetFramed, sheetAnswer}
-use Rattle.walk.specs.Answers.{inFrames, refusedSeek, seekTold, seekFramed, seekAnswer, refusedGet, gotTold, getFramed, getAnswer}
+use Rattle.answers.specs.Quick.{inFrames}
+use Rattle.answers.specs.Seek.{refusedSeek, seekTold, seekFramed, seekAnswer}
+use Rattle.answers.specs.Get.{refusedGet, gotTold, getFramed, getAnswer}
 
 -- a point as a reader sees it: key and value
 pub data Point : Type 0 where

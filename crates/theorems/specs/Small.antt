@@ -1,4 +1,4 @@
--- The small trays: the table as data, and one statement over it (document 01, "Small trays to prove").
+-- The small trays: the table as data, and one statement over it (docs/RULES.md, "Small trays to prove").
 -- the rows
 pub mod Rows
 -- what the library's definitions give for a row's tray

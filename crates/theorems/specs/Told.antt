@@ -1,6 +1,6 @@
--- Number and figure of each call's answer, as its caller gets them (document 01, "Refusals by number"): without a refusal the number is 0, and
+-- Number and figure of each call's answer, as its caller gets them (docs/RULES.md, "Refusals by number"): without a refusal the number is 0, and
 -- the figure is what the call answers: records, segments, bytes written, records listed; at get 1 for found and 0 for absent; at seek, next and
--- page 1 where a record is left and 0 at the end. Assumes nothing.
+-- page 1 where a record is left and 0 at the end.
 pub mod Laws
 use Rattle.refusal.specs.declared.Verdict.{Verdict}
 use Rattle.refusal.specs.Table.{told, verdictOf}
@@ -12,10 +12,10 @@ use Rattle.build_spec.specs.declared.BuildAnswer.{BuildAnswer}
 use Rattle.build_spec.specs.declared.BuildAnswer.the-variants.{Written as BuildWritten, Refused as BuildRefused}
 use Rattle.fold_spec.specs.declared.FoldAnswer.{FoldAnswer}
 use Rattle.fold_spec.specs.declared.FoldAnswer.the-variants.{Written as FoldWritten, Refused as FoldRefused}
-use Rattle.walk.specs.declared.GetAnswer.{GetAnswer}
-use Rattle.walk.specs.declared.GetAnswer.the-variants.{Found as GetFound, Absent, Refused as GetRefused}
-use Rattle.walk.specs.declared.SeekAnswer.{SeekAnswer}
-use Rattle.walk.specs.declared.SeekAnswer.the-variants.{Found, End, Refused as SeekRefused}
+use Rattle.answers.specs.declared.GetAnswer.{GetAnswer}
+use Rattle.answers.specs.declared.GetAnswer.the-variants.{Found as GetFound, Absent, Refused as GetRefused}
+use Rattle.answers.specs.declared.SeekAnswer.{SeekAnswer}
+use Rattle.answers.specs.declared.SeekAnswer.the-variants.{Found, End, Refused as SeekRefused}
 use Rattle.answers.specs.declared.PageAnswer.{PageAnswer}
 use Rattle.answers.specs.declared.PageAnswer.the-variants.{More, End as PageEnd, Refused as PageRefused}
 use Rattle.answers.specs.declared.SheetAnswer.{SheetAnswer}

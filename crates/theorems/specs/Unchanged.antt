@@ -5,7 +5,6 @@
 --     listed-unchanged       from any key on the same records are visible, in the same order
 --     pages-unchanged        pages from any key on, put together, are the same bytes, whatever room each has
 --     sheet-unchanged, sheet-leaves-unchanged     sheet answers the same and leaves the same output, for every prefix and output
--- Assumes nothing.
 use mathlib.Core.Path.{_≡_, refl, sym, ap, _∙_}
 use Prim.Native.Nat.{ℕ}
 use mathlib.Core.List.{List, map}
@@ -16,14 +15,15 @@ use Rattle.theory.specs.Records.{Record}
 use Rattle.theory.specs.Rising.{keep}
 use Rattle.tray.specs.Check.{Sound}
 use Rattle.index.specs.declared.IndexAnswer.the-variants.{Segments}
-use Rattle.index.specs.Check.{checkIndex}
+use Rattle.index.specs.Check.{checkIndexAnswer}
 use Rattle.walk.specs.Walk.Spots.{Reading, check-reading}
 use Rattle.walk.specs.Reads.Shown.{pointOf}
 use Rattle.walk.specs.Reads.Seek.{from, lookup, points}
 use Rattle.walk.specs.Reads.{lowKey, highKey}
 use Rattle.walk.specs.Reads.Page.{listing}
 use Rattle.walk.specs.Reads.Sheet.{within}
-use Rattle.walk.specs.Answers.{seekAnswer, gotTold, getAnswer}
+use Rattle.answers.specs.Seek.{seekAnswer}
+use Rattle.answers.specs.Get.{gotTold, getAnswer}
 use Rattle.answers.specs.declared.SheetAnswer.{SheetAnswer}
 use Rattle.answers.specs.declared.SheetAnswer.the-variants.{Listed, Refused}
 use Rattle.answers.specs.Sheet.{sheetAnswer, sheetLeaves}
@@ -39,8 +39,8 @@ pub record Folded (t x u y : List ℕ) : Type 0 where
   pub folds : Calls t u
   pub before : ℕ
   pub after : ℕ
-  pub accepts : checkIndex t x ≡ Segments before
-  pub accepts-after : checkIndex u y ≡ Segments after
+  pub accepts : checkIndexAnswer t x ≡ Segments before
+  pub accepts-after : checkIndexAnswer u y ≡ Segments after
 
 module _ {t x u y : List ℕ} (f : Folded t x u y) where
   read : Reading t x

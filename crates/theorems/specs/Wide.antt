@@ -7,7 +7,6 @@
 --     own-there, own-else         the same of a verdict with the caller's own figure
 --     build-owned, build-left     build with a wide D
 --     fold-owned, fold-left       fold with wide runs
--- Assumes nothing.
 use mathlib.Core.Path.{_≡_, refl, sym, ap, _∙_, subst}
 use Prim.Native.Nat.{ℕ, _≤_, _<_}
 use native.Mathlib.Omega.{arith}
@@ -23,11 +22,11 @@ use Rattle.tray.specs.Frame.{runCount, framed}
 use Rattle.tray.specs.Frame.Laws.{framed-fits}
 use Rattle.build_spec.specs.declared.BuildAnswer.{BuildAnswer}
 use Rattle.build_spec.specs.declared.BuildAnswer.the-variants.{Written as BuildWritten, Refused as BuildRefused}
-use Rattle.build_spec.specs.Build.{sizeFits, build, leaves}
+use Rattle.build_spec.specs.Build.{sizeFits, buildAnswer, buildLeaves}
 use Rattle.build_spec.specs.Build.Answers.{When, build-says}
 use Rattle.fold_spec.specs.declared.FoldAnswer.{FoldAnswer}
 use Rattle.fold_spec.specs.declared.FoldAnswer.the-variants.{Written as FoldWritten, Refused as FoldRefused}
-use Rattle.fold_spec.specs.Fold.{boundsHold, foldAnswer, leaves as foldLeaves}
+use Rattle.fold_spec.specs.Fold.{boundsHold, foldAnswer, foldLeaves}
 use Rattle.fold_spec.specs.Fold.Answers.{When as FoldWhen, fold-says}
 use Rattle.theorems.specs.Told.{buildTold, foldTold}
 
@@ -85,8 +84,8 @@ own-size t d room (BuildRefused (Cursor n)) w = absurd w
 own-size t d room (BuildRefused (RunLength n)) w = absurd w
 
 -- a D that does not fit is refused
-unfit : (t : List ℕ) (d room : ℕ) → sizeFits (runCount t) d ≡ false → build t d room ≡ cond (framed t) (BuildRefused (SegmentSize d)) (BuildRefused TrayFrame)
-unfolding build
+unfit : (t : List ℕ) (d room : ℕ) → sizeFits (runCount t) d ≡ false → buildAnswer t d room ≡ cond (framed t) (BuildRefused (SegmentSize d)) (BuildRefused TrayFrame)
+unfolding buildAnswer
 unfit t d room n = rw n
 
 -- a D that fits is at most 128, so its narrow one is the same
@@ -95,12 +94,12 @@ unfolding sizeFits
 fit-same h d y = narrowed-same d (let l = leb-true d 128 (and-right (leb h d) _ y) in omega arith)
 
 -- build with a wide D answers as with the narrow one, and 6 tells the wide one,
-pub build-owned : (t : List ℕ) (d room : ℕ) → buildTold (build t d room) ≡ owned 6 d (buildTold (build t (narrowed d) room))
+pub build-owned : (t : List ℕ) (d room : ℕ) → buildTold (buildAnswer t d room) ≡ owned 6 d (buildTold (buildAnswer t (narrowed d) room))
 unfolding buildTold owned
 build-owned t d room =
     cases (sizeFits (runCount t) d)
-    (λ y. own-size t d room (build t d room) (build-says t d room (build t d room) .0 refl)
-    ∙ ap (λ (k : ℕ). owned 6 d (buildTold (build t k room))) (sym (fit-same (runCount t) d y)))
+    (λ y. own-size t d room (buildAnswer t d room) (build-says t d room (buildAnswer t d room) .0 refl)
+    ∙ ap (λ (k : ℕ). owned 6 d (buildTold (buildAnswer t k room))) (sym (fit-same (runCount t) d y)))
     (λ n. rw (unfit t d room n, unfit t (narrowed d) room (narrow-size (runCount t) d ∙ n)) (off (framed t)))
   where
     off : (b : Bool) → buildTold (cond b (BuildRefused (SegmentSize d)) (BuildRefused TrayFrame))
@@ -109,15 +108,15 @@ build-owned t d room =
     off false = refl
 
 -- and leaves the same
-pub build-left : (t : List ℕ) (d room : ℕ) (out : List ℕ) → leaves t d out (build t d room) ≡ leaves t (narrowed d) out (build t (narrowed d) room)
-unfolding leaves
+pub build-left : (t : List ℕ) (d room : ℕ) (out : List ℕ) → buildLeaves t d out (buildAnswer t d room) ≡ buildLeaves t (narrowed d) out (buildAnswer t (narrowed d) room)
+unfolding buildLeaves
 build-left t d room out =
     cases (sizeFits (runCount t) d)
-    (λ y. ap (λ (k : ℕ). leaves t k out (build t k room)) (sym (fit-same (runCount t) d y)))
+    (λ y. ap (λ (k : ℕ). buildLeaves t k out (buildAnswer t k room)) (sym (fit-same (runCount t) d y)))
     (λ n. rw (unfit t d room n, unfit t (narrowed d) room (narrow-size (runCount t) d ∙ n)) (off (framed t)))
   where
-    off : (b : Bool) → leaves t d out (cond b (BuildRefused (SegmentSize d)) (BuildRefused TrayFrame))
-        ≡ leaves t (narrowed d) out (cond b (BuildRefused (SegmentSize (narrowed d))) (BuildRefused TrayFrame))
+    off : (b : Bool) → buildLeaves t d out (cond b (BuildRefused (SegmentSize d)) (BuildRefused TrayFrame))
+        ≡ buildLeaves t (narrowed d) out (cond b (BuildRefused (SegmentSize (narrowed d))) (BuildRefused TrayFrame))
     off true = refl
     off false = refl
 

@@ -1,5 +1,5 @@
--- Which newer record hides which older one (document 01, "The sorted view": a record is old when a lower-numbered run has its key).
--- A rule is a test with two laws, and whatever holds over any rule is proved over any rule. Assumes nothing.
+-- Which newer record hides which older one (docs/RULES.md, "The sorted view": a record is old when a lower-numbered run has its key).
+-- A rule is a test with two laws, and whatever holds over any rule is proved over any rule.
 pub mod Laws
 use Prim.Native.Nat.{ℕ}
 use mathlib.Core.Path.{_≡_}

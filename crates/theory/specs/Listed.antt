@@ -1,5 +1,4 @@
 -- A function at numbers in a row, as a list: how the runs and records that bytes mean are listed. Its laws: `Listed/Laws.antt`.
--- Assumes nothing.
 pub mod Laws
 use Prim.Native.Nat.{ℕ, zero, suc}
 use mathlib.Core.List.{List, [], _∷_}

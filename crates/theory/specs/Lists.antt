@@ -8,7 +8,7 @@
 --     chain-at                             neighbours anywhere in a chain are related
 --     first-before, last-after             the first and the last member of two lists put together
 --     part-on, part-end, part-next         a part and what follows it
--- Not here: lists that rise, what is kept of a list and put into one (`Rising`); f at numbers in a row (`Listed`). Assumes nothing.
+-- Not here: lists that rise, what is kept of a list and put into one (`Rising`); f at numbers in a row (`Listed`).
 use mathlib.Core.Path.{_≡_, refl, sym, ap, _∙_}
 use mathlib.Core.Logic.{⊎-elim}
 use Prim.Native.Nat.{ℕ, zero, suc, _+_, _≤_, _<_}

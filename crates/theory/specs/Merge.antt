@@ -1,5 +1,5 @@
--- Runs of records merged (document 01, "The sorted view" and "Folding"): one over another, all of a tray, neighbours folded, chains of folds.
--- A tray is a list of runs, newest first; a run is a list of records. Assumes nothing.
+-- Runs of records merged (docs/RULES.md, "The sorted view" and "Folding"): one over another, all of a tray, neighbours folded, chains of folds.
+-- A tray is a list of runs, newest first; a run is a list of records.
 pub mod Hidden
 pub mod Laws
 pub mod Chains

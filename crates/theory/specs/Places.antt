@@ -1,5 +1,5 @@
 -- How far each run has been read, and what is then left of the view: the ground of building, checking and walking an index.
--- Places are a function: p i is how many records of run i have been read. Assumes nothing.
+-- Places are a function: p i is how many records of run i have been read.
 pub mod Passed
 pub mod Rest
 pub mod Laws

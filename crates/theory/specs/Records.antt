@@ -1,4 +1,4 @@
--- A record of a tray as three numbers (document 01, "The tray"): key, kind and value. Assumes nothing.
+-- A record of a tray as three numbers (docs/FORMAT.md, "The tray"): key, kind and value.
 use Prim.Native.Nat.{ℕ, _≤_}
 use mathlib.Core.Path.{_≡_}
 use mathlib.Core.Bool.{Bool}

@@ -1,4 +1,4 @@
--- Lists that rise strictly by a number, and the list functions that everything else is made of. Assumes nothing.
+-- Lists that rise strictly by a number, and the list functions that everything else is made of.
 -- The laws of rising lists are in `Rising/Laws.antt`, those of the functions in `Kept.antt` and `Inserted.antt`; the one that the rest
 -- stands on is `same-members`.
 pub mod Laws

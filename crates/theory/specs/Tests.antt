@@ -5,7 +5,7 @@
 --     and-true, and-left, and-right     a test of two parts that passes
 --     or-left, or-right          a test of either part that fails
 --     order                      which of two numbers is the lower one
--- Not here: what `ltb`, `leb` and `eqb` say of numbers, which is in the library's `borrow.Author.Tests`. Assumes nothing.
+-- Not here: what `ltb`, `leb` and `eqb` say of numbers, which is in the library's `borrow.Author.Tests`.
 use mathlib.Core.Path.{_≡_, refl, sym}
 use Prim.Native.Nat.{ℕ, _<_, _≤_}
 use native.Mathlib.Omega.{arith}

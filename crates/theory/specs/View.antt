@@ -1,5 +1,5 @@
--- The sorted view of a tray (document 01, "The sorted view"): all records of all runs by rising key; equal keys by rising run number,
--- so newest first. A record in the view stands with its run and its place in the run. Assumes nothing.
+-- The sorted view of a tray (docs/RULES.md, "The sorted view"): all records of all runs by rising key; equal keys by rising run number,
+-- so newest first. A record in the view stands with its run and its place in the run.
 pub mod Entries
 pub mod Laws
 pub mod Old
@@ -54,7 +54,7 @@ module _ {A : Type 0} where
       order-none : InOrder []
       order-more : {e : Entry A} {es : List (Entry A)} → All (Before e) es → InOrder es → InOrder (e ∷ es)
 
-    -- the view in 01's words: every record of the tray once, in order
+    -- the view in the rules' words: every record of the tray once, in order
     pub record IsView (t : List (List A)) (v : List (Entry A)) : Type 0 where
       pub all : Permuted (entries t) v
       pub sorted : InOrder v

@@ -1,5 +1,4 @@
--- Check tray's answer for every input (document 01, "Refusals by number": 1, then 3/2 in tray order), and what a sound tray is.
--- Assumes nothing.
+-- Check tray's answer for every input (docs/RULES.md, "Refusals by number": 1, then 3/2 in tray order), and what a sound tray is.
 mod Cases
 pub mod Code
 pub mod Laws
@@ -31,8 +30,8 @@ checkRuns (suc k) t r =
     afterRun (recordsBefore t r) (judgeRun (countOf t r) (runBytes t r)) next
 
 -- check tray
-unfoldable pub checkTray : List ℕ → TrayAnswer
-checkTray t =
+unfoldable pub checkTrayAnswer : List ℕ → TrayAnswer
+checkTrayAnswer t =
     let judged = checkRuns (runCount t) t 0 in
     cond (framed t) judged (Refused TrayFrame)
 

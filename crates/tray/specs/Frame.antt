@@ -1,5 +1,5 @@
--- The frame of a tray (document 01, "The tray"): byte 0 is the run count H, 1 to 63; bytes 1 to 3 are zero; then H counts of 2 bytes,
--- each 0 to 4,096; then the records of 25 bytes, run 0 first, back to back, and nothing after. Assumes nothing.
+-- The frame of a tray (docs/FORMAT.md, "The tray"): byte 0 is the run count H, 1 to 63; bytes 1 to 3 are zero; then H counts of 2 bytes,
+-- each 0 to 4,096; then the records of 25 bytes, run 0 first, back to back, and nothing after.
 pub mod Code
 pub mod Laws
 use Prim.Native.Nat.{ℕ, zero, suc, _+_, _-_, _*_, _≤_, _<_}

@@ -3,7 +3,7 @@
 pub mod Frame
 -- the records of one run, and which one is wrong first
 pub mod Run
--- check tray's answer, and soundness in 01's words
+-- check tray's answer, and soundness in the rules' words
 pub mod Check
 -- the runs that a tray means, and the bytes of a list of runs
 pub mod Meaning

@@ -1,5 +1,5 @@
--- The list of runs that a tray's bytes mean, and the bytes of a list of runs (document 01, "The tray"). The laws: `Laws` on the runs,
--- `Write` and `Read` on the two round trips, `Back` on what fits. Assumes nothing.
+-- The list of runs that a tray's bytes mean, and the bytes of a list of runs (docs/FORMAT.md, "The tray"). The laws: `Laws` on the runs,
+-- `Write` and `Read` on the two round trips, `Back` on what fits.
 pub mod Back
 mod Cases
 pub mod Laws

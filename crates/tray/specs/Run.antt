@@ -1,5 +1,5 @@
--- The records of one run, given as its own bytes (document 01, "The tray": a record has 25 bytes: key 8, kind 1, value 16), and which
--- record is wrong first: 3 before 2 at one record. Assumes nothing.
+-- The records of one run, given as its own bytes (docs/FORMAT.md, "The tray": a record has 25 bytes: key 8, kind 1, value 16), and which
+-- record is wrong first: 3 before 2 at one record.
 pub mod Code
 pub mod Laws
 use Prim.Native.Nat.{ℕ, zero, suc, _+_, _*_}

@@ -1,7 +1,8 @@
 // The frame of a tray: its header, its counts, and where each run starts. A call tests it once, with at most 63 additions.
 use crate::RunNo;
 use number::big2;
-use number::wide_size;
+use number::usize_of_u8;
+use number::usize_of_u16;
 ghost use mathlib.Core.Path.{_≡_};
 ghost use Prim.Native.Nat.{_+_, _*_, _≤_};
 ghost use lib.ListN.{length};
@@ -18,20 +19,13 @@ pub struct TrayFrame {
     pub starts: [usize; 64],
 }
 
-// A number of 16 bits, as a length.
-pub fn size16(x: u16) -> usize
-    ensures { λ r. ⌜ r ≡ x ⌝ }
-{
-    x as usize
-}
-
 // How many records a run has.
 pub fn count_of(t: &[u8], r: RunNo) -> u16
     requires { ⌜ 6 + 2 * r .0 ≤ length (now t) ⌝ }
     ensures { λ n. ⌜ n ≡ countOf (now (t .entry)) (r .0) ⌝ }
 {
     let i = r.0;
-    big2(t, 4 + 2 * wide_size(i))
+    big2(t, 4 + 2 * usize_of_u8(i))
 }
 
 // Whether the header is right and the counts have room.
@@ -42,7 +36,7 @@ fn header_fits(t: &[u8]) -> bool
         return false;
     }
     let h = t[0];
-    if t.len() < 4 + 2 * wide_size(h) {
+    if t.len() < 4 + 2 * usize_of_u8(h) {
         return false;
     }
     if h < 1 {
@@ -72,15 +66,15 @@ fn no_frame() -> TrayFrame
     }
 }
 
-// The frame behind a header that fits.
-fn counted(t: &[u8]) -> TrayFrame
+// The frame after a header that fits.
+fn read_counts(t: &[u8]) -> TrayFrame
     requires { ⌜ Header (now t) ⌝ }
     ensures { λ f. ⌜ Framing (now (t .entry)) f ⌝ }
 {
     let h = t[0];
     let mut counts = [0u16; 63];
     let mut starts = [0usize; 64];
-    let mut at = 4 + 2 * wide_size(h);
+    let mut at = 4 + 2 * usize_of_u8(h);
     starts[0] = at;
     let mut r: u8 = 0;
     while r < h {
@@ -88,8 +82,8 @@ fn counted(t: &[u8]) -> TrayFrame
         if 4096 < n {
             return no_frame();
         }
-        let i = wide_size(r);
-        at += 25 * size16(n);
+        let i = usize_of_u8(r);
+        at += 25 * usize_of_u16(n);
         counts[i] = n;
         starts[i + 1] = at;
         r += 1;
@@ -107,7 +101,7 @@ pub fn tray_frame(t: &[u8]) -> TrayFrame
     ensures { λ f. ⌜ Framing (now (t .entry)) f ⌝ }
 {
     if header_fits(t) {
-        return counted(t);
+        return read_counts(t);
     }
     no_frame()
 }

@@ -1,4 +1,4 @@
-// The tray: its frame, and its runs handed on as stretches of their own (document 01, "The tray").
+// The tray: its frame, and its runs handed on as stretches of their own (docs/FORMAT.md, "The tray").
 pub mod frame;
 pub mod run;
 
@@ -9,6 +9,12 @@ pub struct RunNo(pub u8);
 
 // The place of a record in its run, from 0.
 pub struct Place(pub u16);
+
+// The head of a record: what a check reads of it.
+pub struct Head {
+    pub key: u64,
+    pub kind: u8,
+}
 
 // What judging a run finds: nothing wrong, or the first wrong record's place.
 pub enum RunAnswer {

@@ -11,7 +11,7 @@ ghost use Rattle.number.specs.Big.{be};
 ghost use Rattle.tray.specs.Run.{recordFrom, kindWrong, judgeRun};
 
 // Whether 16 bytes are all zero.
-fn no_value(run: &[u8], at: usize) -> bool
+fn value_is_zero(run: &[u8], at: usize) -> bool
     requires { ⌜ at + 16 ≤ length (now run) ⌝ }
     ensures { λ r. ⌜ r ≡ eqb (be 16 (now (run .entry)) at) 0 ⌝ }
 {
@@ -31,7 +31,7 @@ fn kind_right(run: &[u8], at: usize) -> bool
         return true;
     }
     if kind == 1 {
-        return no_value(run, at + 9);
+        return value_is_zero(run, at + 9);
     }
     false
 }

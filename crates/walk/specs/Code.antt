@@ -5,13 +5,12 @@
 --     spotOf, soughtOf                          cursors and answers
 --     Segmenting, segments-end, segments-enter  the loop over segments
 --     Selecting, selectors-end, selectors-pass, selectors-lost, selectors-stay, selectors-go    the loop over selectors
--- Assumes nothing.
 pub mod Load
 pub mod Moves
+pub mod Numbers
 pub mod Turns
 pub mod Seek
 pub mod Stayed
-pub mod Get
 pub mod Inside
 use mathlib.Core.Path.{_≡_, refl, sym, ap, ap₂, _∙_}
 use Prim.Native.Nat.{ℕ, zero, suc, _+_, _-_, _≤_, _<_}

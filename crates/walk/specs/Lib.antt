@@ -1,6 +1,6 @@
 -- What reading through an index answers, for every tray, index, cursor, key, prefix and room; and that through an accepted index this is the
 -- full merge.
--- where a walk starts, by 01's very probes
+-- where a walk starts, by the very probes of docs/RULES.md, "Start"
 pub mod Start
 -- what the code needs of them
 pub mod Code
@@ -8,5 +8,3 @@ pub mod Code
 pub mod Walk
 -- cursors, seek, get, next, page and sheet: walks with their visitors
 pub mod Reads
--- the answers of the quick calls for every input
-pub mod Answers

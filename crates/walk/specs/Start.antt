@@ -1,6 +1,5 @@
--- Where a walk for a key starts (document 01, "Start"): from all S segments, probe the one at (first + one past last)/2 rounded down; an anchor
+-- Where a walk for a key starts (docs/RULES.md, "Start"): from all S segments, probe the one at (first + one past last)/2 rounded down; an anchor
 -- at or below the key keeps those after it, else those before. With n segments passed when none remain, start at segment n-1, or 0 when n is 0.
--- Assumes nothing.
 pub mod Code
 pub mod Laws
 use Prim.Native.Nat.{ℕ, zero, suc, pred, _+_, _/_}

@@ -1,7 +1,7 @@
--- The walk (document 01, "Walk"): entering a segment loads its offsets; a placeholder is passed; a selector whose run is H or more, or whose
+-- The walk (docs/RULES.md, "Walk"): entering a segment loads its offsets; a placeholder is passed; a selector whose run is H or more, or whose
 -- place is at or past the run's count, loses the walk; what happens at any other selector is a visitor's to say. Passing a record raises its
 -- run's place by one; the one where the walk stays raises none. After segment S-1 comes the end. It reads counts, index bytes and places, and
--- no record. Assumes nothing.
+-- no record.
 pub mod Spots
 pub mod Tours
 pub mod Named

@@ -1,4 +1,4 @@
-// Where a walk for a key starts: a binary search over the anchors with 01's very probes.
+// Where a walk for a key starts: a binary search over the anchors with the very probes of docs/RULES.md, "Start".
 use index::SegmentNo;
 use index::frame::segment_at;
 use number::big8;

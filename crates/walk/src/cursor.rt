@@ -1,7 +1,7 @@
 // The cursor of a walk: segment, selector, and how far each of 63 runs has been read.
 use index::SegmentNo;
 use number::big2;
-use number::wide_size;
+use number::usize_of_u8;
 use tray::Place;
 use tray::RunNo;
 ghost use mathlib.Core.Path.{_≡_};
@@ -34,12 +34,26 @@ impl Cursor {
         ensures { λ c. ⌜ spotOf c ≡ pastRecord (spotOf self) (r .0) ⌝ }
     {
         let n = r.0;
-        let i = wide_size(n);
+        let i = usize_of_u8(n);
         let p = self.places[i];
         self.places[i] = Place(p.0 + 1);
         self.selector += 1;
         self
     }
+}
+
+// The places of a cursor as numbers: a copy that is lent where a cursor would be copied again for each function.
+pub fn place_numbers(places: [Place; 63]) -> [u16; 63]
+    ensures { λ ps. ⌜ ps ≡ numbers places ⌝ }
+{
+    let mut ps = [0u16; 63];
+    let mut i: usize = 0;
+    while i < 63 {
+        let p = places[i];
+        ps[i] = p.0;
+        i += 1;
+    }
+    ps
 }
 
 // Where a walk ends: at a record, at the end, or lost at a selector of a segment.
@@ -61,7 +75,7 @@ pub fn load(x: &[u8], at: usize, h: u8) -> [Place; 63]
     ensures { λ ps. ⌜ numbers ps ≡ loadedFrom h (now (x .entry)) at ⌝ }
 {
     let mut places = [Place(0); 63];
-    let mut r = wide_size(h);
+    let mut r = usize_of_u8(h);
     while 0 < r {
         r -= 1;
         places[r] = Place(big2(x, at + 8 + 2 * r));
@@ -79,7 +93,7 @@ pub fn reload(x: &[u8], at: usize, h: u8, places: &mut [u16])
         places[i] = 0;
         i += 1;
     }
-    let mut r = wide_size(h);
+    let mut r = usize_of_u8(h);
     while 0 < r {
         r -= 1;
         places[r] = big2(x, at + 8 + 2 * r);

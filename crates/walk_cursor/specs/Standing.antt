@@ -1,11 +1,9 @@
--- Whether a cursor belongs, as the code reckons it: places past the tray's runs by the highest, the others by a tally of the selectors.
---     Copying, copy-none, copy-more, copy-end    places copied as numbers
+-- Whether a cursor belongs, as the code computes it: places past the tray's runs by the highest, the others by a tally of the selectors.
 --     higherOf, noneFor, none-turn, none-end     some places in a row are 0
 --     selectorsFrom, Tallied, tally-none, tally-more     how many selectors name each run
 --     wantedAt, wanted-is                        the places that a cursor must have
 --     zeros-hold, zeros-fail, places-are         all places at once
 --     end-told, stands-told, off-segment         whether the cursor belongs
--- Assumes nothing.
 use mathlib.Core.Path.{_≡_, refl, sym, ap, ap₂, _∙_, subst}
 use Prim.Native.Nat.{ℕ, zero, suc, _+_, _-_, _*_, _%_, _≤_, _<_}
 use native.Mathlib.Omega.{arith}
@@ -14,7 +12,7 @@ use native.Mathlib.Numerals.{add-one}
 use mathlib.Core.Bool.{Bool, true, false, cond, _&&_, _||_}
 use mathlib.Core.List.{List}
 use lib.ListN.{length, getD, set, replicate, length-set, getD-replicate}
-use lib.Seq.{ext-getD, getD-set-same, getD-set-other}
+use lib.Seq.{getD-set-same, getD-set-other}
 use lib.Dec.{eqb, ltb}
 use borrow.Author.Tests.{eq-eqb, ne-eqb, lt-ltb, le-ltb, eqb-true, eqb-false, ltb-true, ltb-false}
 use Rattle.theory.specs.Tests.{cases, never, order, and-left, and-right}
@@ -25,39 +23,11 @@ use Rattle.index.specs.Layout.Code.{segmentAt-next, segmentAt-le}
 use Rattle.index.specs.Layout.Laws.{getD-listed}
 use Rattle.index.specs.Scan.{runIn}
 use Rattle.index.specs.Scan.Code.{sameTo, same-next}
-use Rattle.tray.specs.declared.Place.{Place}
-use Rattle.walk.specs.Code.{placed, numbers, getD-numbers, length-numbers}
 use Rattle.walk.specs.Start.Code.{Probing}
 use Rattle.walk.specs.Walk.{Spot}
 use Rattle.walk.specs.Reads.{selectorsOf, placesAt, samePlaces, belongs}
 
 -- the first r places are copied as numbers
-pub record Copying (places : List Place) (ps : List ℕ) (r : ℕ) : Type 0 where
-  pub room : length ps ≡ 63
-  pub done : (i : ℕ) → i < r → getD ps i 0 ≡ getD places i (placed 0) .0
-
-pub copy-none : (places : List Place) → Copying places (replicate 63 0) 0
-copy-none places = record { room = refl; done = λ i l. absurd (omega arith) }
-
-pub copy-more : {places : List Place} {ps : List ℕ} {r : ℕ} → Copying places ps r → r < 63 → Copying places (set ps r (getD places r (placed 0) .0)) (r + 1)
-copy-more {places} {ps} {r} c l =
-    let room : length ps ≡ 63 = c .room in
-    record {
-      room = simp length-set room;
-      done = λ i k.
-          order i r
-          (λ b. getD-set-other ps r i (getD places r (placed 0) .0) 0 (λ z. omega arith) ∙ c .done i b)
-          (λ z. ap (λ (j : ℕ). getD (set ps r (getD places r (placed 0) .0)) j 0) z
-          ∙ getD-set-same ps r (getD places r (placed 0) .0) 0 (omega arith)
-          ∙ ap (λ (j : ℕ). getD places j (placed 0) .0) (sym z))
-          (λ a. absurd (omega arith));
-    }
-
-pub copy-end : {places : List Place} {ps : List ℕ} {r : ℕ} → Copying places ps r → 63 ≤ r → length places ≡ 63 → ps ≡ numbers places
-copy-end {places} {ps} c l e =
-    let room : length ps ≡ 63 = c .room in
-    ext-getD 0 ps (numbers places) (c .room ∙ sym (length-numbers places ∙ e)) (λ i k. c .done i (omega arith) ∙ sym (getD-numbers places i))
-
 -- the higher of two numbers
 abbrev pub higherOf : ℕ → ℕ → ℕ
 higherOf a b = cond (ltb a b) b a
@@ -196,7 +166,7 @@ wanted-run h x at seen {r} m l e f = sym (wanted-get h x at seen r (omega arith)
 wanted-past : (h : ℕ) (x : List ℕ) (at : ℕ) (seen : List ℕ) (r : ℕ) → h ≤ r → r < 63 → getD (wantedAt h x at seen) r 0 ≡ 0
 wanted-past h x at seen r m l = wanted-get h x at seen r l ∙ rw (le-ltb r h m)
 
--- they are those of 01
+-- they are those of docs/RULES.md, "Cursor"
 module _ {h : ℕ} {x : List ℕ} {d n : ℕ} (p : Probing x h d n) (g : ℕ) {at first : ℕ} (a : at ≡ segmentAt h d g) (f : first ≡ at + 8 + 2 * h) where
   tallies : (r k : ℕ) → selectorsFrom x first r k ≡ selectorsOf h x g r k
   unfolding selectorsFrom selectorsOf headSize

@@ -1,7 +1,6 @@
 -- What the calls need of a cursor's test.
 --     told-spot             a test of a cursor's parts is one of the cursor
 --     belongs-low           one that belongs and is not the end stands at a selector
--- Assumes nothing.
 use mathlib.Core.Path.{_≡_, sym, ap, _∙_}
 use Prim.Native.Nat.{ℕ, _<_}
 use mathlib.Core.Bool.{Bool, true}

@@ -2,39 +2,16 @@
 use index::SegmentNo;
 use index::frame::segment_at;
 use number::big2;
-use number::wide_size;
-use number::wide32;
-use tray::Place;
+use number::u32_of_u8;
+use number::u32_of_u16;
+use number::usize_of_u8;
 ghost use mathlib.Core.Path.{_≡_};
 ghost use Prim.Native.Nat.{_+_, _-_, _*_, _≤_, _<_};
 ghost use lib.ListN.{length};
 ghost use Rattle.index.specs.Scan.Code.{sameTo};
 ghost use Rattle.walk.specs.Start.Code.{Probing};
 ghost use Rattle.walk.specs.Reads.{placesAt, samePlaces, belongs as belongsTo};
-ghost use Rattle.walk.specs.Code.{numbers};
 ghost use Rattle.walk_cursor.specs.Standing.{higherOf, noneFor, Tallied, wantedAt};
-
-// The number of 16 bits, as 32: an offset and a tally add up to no more.
-fn wide_16(x: u16) -> u32
-    ensures { λ n. ⌜ n ≡ x ⌝ }
-    ensures { λ n. ⌜ n ≤ 65535 ⌝ }
-{
-    x as u32
-}
-
-// The places of a cursor as numbers: a copy that is lent where a cursor would be copied again for each function.
-pub fn place_numbers(places: [Place; 63]) -> [u16; 63]
-    ensures { λ ps. ⌜ ps ≡ numbers places ⌝ }
-{
-    let mut ps = [0u16; 63];
-    let mut i: usize = 0;
-    while i < 63 {
-        let p = places[i];
-        ps[i] = p.0;
-        i += 1;
-    }
-    ps
-}
 
 // The higher of two numbers.
 fn higher(a: u16, b: u16) -> u16
@@ -65,12 +42,12 @@ fn tally(x: &[u8], first: usize, s: u8) -> [u8; 64]
     requires { ⌜ first + s ≤ length (now x) ⌝ }
     ensures { λ seen. ⌜ Tallied (now (x .entry)) first s seen ⌝ }
 {
-    let end = wide_size(s);
+    let end = usize_of_u8(s);
     let mut seen = [0u8; 64];
     let mut i: usize = 0;
     while i < end {
         let v = x[first + i];
-        let r = wide_size(v % 64);
+        let r = usize_of_u8(v % 64);
         seen[r] += 1;
         i += 1;
     }
@@ -82,10 +59,10 @@ fn places_hold(x: &[u8], at: usize, h: u8, seen: &[u8], places: &[u16; 63]) -> b
     requires { ⌜ (at + 8 + 2 * h ≤ length (now x)) × (h ≤ 63) × (length (now seen) ≡ 64) ⌝ }
     ensures { λ b. ⌜ b ≡ sameTo (now (places .entry)) (wantedAt h (now (x .entry)) at (now (seen .entry))) h ⌝ }
 {
-    let mut r = wide_size(h);
+    let mut r = usize_of_u8(h);
     while 0 < r {
         r -= 1;
-        if wide_16(places[r]) == wide_16(big2(x, at + 8 + 2 * r)) + wide32(seen[r]) {
+        if u32_of_u16(places[r]) == u32_of_u16(big2(x, at + 8 + 2 * r)) + u32_of_u8(seen[r]) {
             continue;
         }
         return false;
@@ -101,7 +78,7 @@ fn stands(x: &[u8], h: u8, d: u8, n: u32, g: SegmentNo, s: u8, places: &[u16; 63
     ensures { λ b. ⌜ b ≡ samePlaces (now (places .entry)) (placesAt h (now (x .entry)) (g .0) s) ⌝ }
 {
     let at = segment_at(g, h, d);
-    let end = wide_size(h);
+    let end = usize_of_u8(h);
     let seen = tally(x, at + 8 + 2 * end, s);
     if places_hold(x, at, h, &seen, places) {
         return none_from(places, end);

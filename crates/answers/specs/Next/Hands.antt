@@ -1,5 +1,4 @@
 -- The cursor that next hands back belongs to the same tray and index, whatever the index says: next is refused, or its cursor belongs.
--- Assumes nothing.
 use mathlib.Core.Path.{_≡_, refl, ap, _∙_, subst}
 use mathlib.Core.Logic.{inl, inr}
 use Prim.Native.Nat.{ℕ, _<_}
@@ -17,7 +16,7 @@ use Rattle.walk.specs.Walk.{Spot, Visit, stay, go, Walked, stayed, ended, lost,
 use Rattle.walk.specs.Reads.{Found, endSpot, belongs, unmarked, foundBy, nextVisit, next}
 use Rattle.walk.specs.Reads.Handed.{from-stands, stands-belongs, belongs-stands, end-belongs}
 use Rattle.walk.specs.Code.{length-numbers, spotOf}
-use Rattle.walk.specs.Answers.Hands.{in-frames, spot-belonging, Hands, spotIn}
+use Rattle.answers.specs.Seek.Hands.{in-frames, spot-belonging, Hands, spotIn}
 use Rattle.answers.specs.Next.{refusedNext, nextTold, nextFramed, nextAnswer}
 
 -- next stays at the spot that it hands back

@@ -1,5 +1,4 @@
 -- The cursor that page hands back belongs to the same tray and index, whatever the index says: page is refused, or its cursor belongs.
--- Assumes nothing.
 use mathlib.Core.Path.{_≡_, refl, ap, _∙_, subst}
 use mathlib.Core.Logic.{_⊎_, inl, inr}
 use Prim.Native.Nat.{ℕ, _+_, _*_, _<_}
@@ -18,13 +17,13 @@ use Rattle.walk.specs.Walk.{Spot, Visit, stay, go, Walked, stayed, ended, lost,
 use Rattle.walk.specs.Reads.{Written, endSpot, belongs, unmarked, pageVisit, page}
 use Rattle.walk.specs.Reads.Handed.{from-stands, stands-belongs, belongs-stands, end-belongs}
 use Rattle.walk.specs.Code.{length-numbers, spotOf}
-use Rattle.walk.specs.Answers.Hands.{in-frames, spot-belonging, Belonging}
-use Rattle.answers.specs.declared.Pages.{Pages}
+use Rattle.answers.specs.Seek.Hands.{in-frames, spot-belonging, Belonging}
+use Rattle.answers.specs.declared.PagedAnswer.{PagedAnswer}
 use Rattle.answers.specs.declared.PageAnswer.the-variants.{Refused}
 use Rattle.answers.specs.Page.{refusedPage, pageTold, pageFramed, pageAnswer}
 
 -- the answer is refused, or its cursor belongs
-unfoldable pub Hands : List ℕ → List ℕ → Pages → Type 0
+unfoldable pub Hands : List ℕ → List ℕ → PagedAnswer → Type 0
 Hands t x r = ((f : Refusal) × (r .answer ≡ Refused f)) ⊎ Belonging t x (r .cursor)
 
 -- where the visitor stays

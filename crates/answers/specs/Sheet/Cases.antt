@@ -13,7 +13,7 @@ use Rattle.index.specs.Scan.{raise}
 use Rattle.walk.specs.Start.{probe, start}
 use Rattle.walk.specs.Walk.{loaded, named, walkSelectors, walkSegments, walkFrom}
 use Rattle.walk.specs.Reads.{recordBy, unmarked, foundBy, seekVisit, seek, lowKey, highKey, sheetVisit, sheetFrom, sheet}
-use Rattle.walk.specs.Answers.{inFrames}
+use Rattle.answers.specs.Quick.{inFrames}
 use Rattle.answers.specs.declared.SheetAnswer.{SheetAnswer}
 use Rattle.answers.specs.declared.SheetAnswer.the-variants.{Listed, Refused}
 use Rattle.answers.specs.Sheet.{prefixLong, prefixLast, listedIn, sheetTold, sheetFramed, sheetAnswer}

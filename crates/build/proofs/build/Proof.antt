@@ -1,4 +1,4 @@
--- `build::build` meets its contract: the tests that led to each answer are those of the definition, in its order. Assumes nothing.
+-- `build::build` meets its contract: the tests that led to each answer are those of the definition, in its order.
 use mathlib.Core.Logic.{⊎-elim}
 use Rattle.build.specs.Answers.{answer-frame, answer-low, answer-high, answer-refused, answer-sound, sounded-is, leaves-same}
 use mathlib.Core.Path.{sym, _∙_}

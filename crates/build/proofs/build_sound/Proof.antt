@@ -1,4 +1,4 @@
--- `build::build_sound` meets its contract: where the room is surely enough, or is after counting, the index is written. Assumes nothing.
+-- `build::build_sound` meets its contract: where the room is surely enough, or is after counting, the index is written.
 use Rattle.build.specs.Answers.{size-is, records-low, part-low, most-room, answer-fits, answer-short, leaves-index, leaves-same}
 use Rattle.tray.specs.Meaning.{runsOf}
 use Rattle.number.proofs.Known.{bytes-known}
@@ -8,8 +8,8 @@ use borrow.Author.Needs.{needs}
 use Rattle.build.proofs.build_sound.Statement.{statement}
 use Rattle.build.proofs.build_sound.Tie as tie
 
-wide64-requires : tie.Need-wide64-requires
-wide64-requires c κs = search needs
+u64-of-u8-requires : tie.Need-u64-of-u8-requires
+u64-of-u8-requires c κs = search needs
 
 add-most : tie.Need-add-most
 add-most c = omega arith
@@ -22,21 +22,21 @@ mul-most c =
     let shared-slice-known = c .before .before .shared-slice-known in
     let args = c .before .before .before .args in
     let sounded = c .before .before .before .pre in
-    omega (arith, part-low (args .n) (c .wide64 .result + 1) (records-low sounded (bytes-known (args .t .now) (shared-slice-known .given))))
+    omega (arith, part-low (args .n) (c .u64-of-u8 .result + 1) (records-low sounded (bytes-known (args .t .now) (shared-slice-known .given))))
 
 add-most-2 : tie.Need-add-most-2
 add-most-2 c =
     let shared-slice-known = c .before .before .shared-slice-known in
     let args = c .before .before .before .args in
     let sounded = c .before .before .before .pre in
-    omega (arith, part-low (args .n) (c .wide64 .result + 1) (records-low sounded (bytes-known (args .t .now) (shared-slice-known .given))))
+    omega (arith, part-low (args .n) (c .u64-of-u8 .result + 1) (records-low sounded (bytes-known (args .t .now) (shared-slice-known .given))))
 
 cast-t14 : tie.Need-cast-t14
 cast-t14 c =
     let shared-slice-known = c .before .before .shared-slice-known in
     let args = c .before .before .before .args in
     let sounded = c .before .before .before .pre in
-    omega (arith, part-low (args .n) (c .wide64 .result + 1) (records-low sounded (bytes-known (args .t .now) (shared-slice-known .given))))
+    omega (arith, part-low (args .n) (c .u64-of-u8 .result + 1) (records-low sounded (bytes-known (args .t .now) (shared-slice-known .given))))
 
 segment-at-requires : tie.Need-segment-at-requires
 segment-at-requires c κs = search needs
@@ -45,9 +45,9 @@ write-index-requires : tie.Need-write-index-requires
 write-index-requires c κs =
     let if1 = c .before .if1 in
     let segment-at = c .before .before .segment-at in
-    let wide64 = c .before .before .before .wide64 in
+    let u64-of-u8 = c .before .before .before .u64-of-u8 in
     let sounded = c .before .before .before .before .before .before .pre in
-    (sounded, (most-room sounded (sounded .opened .runs) (wide64 .ensures) (segment-at .ensures) (if1 .taken)))
+    (sounded, (most-room sounded (sounded .opened .runs) (u64-of-u8 .ensures) (segment-at .ensures) (if1 .taken)))
 
 same-length : tie.Need-same-length
 same-length c =
@@ -61,14 +61,14 @@ returns c =
     let back = back .before .before in
     let if1 = back .if1 in
     let segment-at = back .before .segment-at in
-    let wide64 = back .before .before .wide64 in
+    let u64-of-u8 = back .before .before .u64-of-u8 in
     let args = back .before .before .before .before .before .args in
     let sounded = back .before .before .before .before .before .pre in (
       answer-fits
           (args .d)
           (runsOf (args .t .now))
           (write-index .ensures .0)
-          (most-room sounded (sounded .opened .runs) (wide64 .ensures) (segment-at .ensures) (if1 .taken)),
+          (most-room sounded (sounded .opened .runs) (u64-of-u8 .ensures) (segment-at .ensures) (if1 .taken)),
       leaves-index (args .t .now) (args .out .now) (args .d) _ (write-index .ensures .1),
     )
 
@@ -133,7 +133,7 @@ pub build-sound-spec : {M : Type 1} → statement M
 build-sound-spec =
     tie.close
     (tie.spec
-    wide64-requires
+    u64-of-u8-requires
     add-most
     div-most
     mul-most

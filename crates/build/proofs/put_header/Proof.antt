@@ -1,4 +1,4 @@
--- `build::put_header` meets its contract: four bytes and a number, one right behind the other. Assumes nothing.
+-- `build::put_header` meets its contract: four bytes and a number, one right after the other.
 use Rattle.build.specs.Answers.{header-is}
 use lib.ListN.{length-set}
 use mathlib.Core.Path.{_∙_}

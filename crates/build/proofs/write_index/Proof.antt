@@ -1,4 +1,4 @@
--- `build::write_index` meets its contract: the header stands before the segments. Assumes nothing.
+-- `build::write_index` meets its contract: the header stands before the segments.
 use Rattle.build.specs.Answers.{size-is, index-is, size-least}
 use Rattle.tray.specs.Meaning.{runsOf}
 use native.Mathlib.Omega.{arith}

@@ -1,6 +1,5 @@
 -- What the code writes into a segment: key after key, as `pack` packs them.
 --     Filled, fill-is       the records whose selectors are written, and what is left after them
--- Assumes nothing.
 use mathlib.Core.Path.{_≡_, refl, sym, ap, ap₂, _∙_, subst}
 use mathlib.Core.Logic.{⊎-elim}
 use Prim.Native.Nat.{ℕ, _+_, _-_, _*_, _≤_, _<_}
@@ -34,7 +33,7 @@ use Rattle.build_marks.specs.Code.Taken.{Taken, taken-reached, steps-taken}
 use Rattle.build.specs.Segment.Given.{Holds, LastGroup, back-is}
 use Rattle.build.specs.Segment.Packed.{pack-front, first-long}
 
--- after b, the records own are the next segment of w, their selectors are written from a place on, and perhaps more behind them
+-- after b, the records own are the next segment of w, their selectors are written from a place on, and perhaps more after them
 pub record Filled (t : List ℕ) (d : ℕ) (b w : List Item) (places′ seg seg′ : List ℕ) (from e : ℕ) : Type 0 where
   pub own : List Item
   pub left : List Item

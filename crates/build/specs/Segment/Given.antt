@@ -1,6 +1,5 @@
 -- What going back comes to: the records of the last key are given back.
 --     LastGroup, back-is     the records before the last key's, and the places there
--- Assumes nothing.
 use mathlib.Core.Path.{_≡_, refl, sym, ap, ap₂, _∙_, subst}
 use mathlib.Core.Logic.{⊎-elim}
 use Prim.Native.Nat.{ℕ, zero, suc, _+_, _-_, _%_, _≤_, _<_}

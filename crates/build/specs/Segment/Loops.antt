@@ -3,7 +3,6 @@
 --     sounded-ready, -fits, -reading         what the loops start from
 --     front-long, front-back, lent-long, lent-back        a stretch that is lent and given back
 --     Writing, writing-none, -room, -more, -end           the segments so far, in the output
--- Assumes nothing.
 use mathlib.Core.Path.{_≡_, refl, sym, ap, ap₂, _∙_}
 use Prim.Native.Nat.{ℕ, suc, _+_, _-_, _*_, _≤_, _<_}
 use native.Mathlib.Nat.{add-zero, zero-mul}
@@ -60,7 +59,20 @@ unfolding groups pack
 pack-none d [] e = refl
 pack-none d (x ∷ w) e = absurd (omega arith)
 
-module _ {d : ℕ} (t : List ℕ) (ready : Ready d (runsOf t)) where
+-- what the loops over the segments start from
+module _ {t : List ℕ} {d : ℕ} {f : TrayFrame} {n : ℕ} (s : Sounded t d f n) where
+  pub sounded-ready : Ready d (runsOf t)
+  sounded-ready = sound-ready (s .sound) (record { least = s .least; most = s .most })
+
+  pub sounded-fits : Bytes t → Fits (runsOf t)
+  sounded-fits b = fits-runs (s .sound .frame) b
+
+  pub sounded-reading : {places : List ℕ} → length places ≡ 63 → Reading t (f .counts) (f .starts) places
+  sounded-reading l =
+      let o = s .opened in
+      record { at = o .at; few = o .at .few; room-counts = o .room; room-places = l; counts-are = o .counts }
+
+module _ {t : List ℕ} {d : ℕ} {f : TrayFrame} {all : ℕ} (z : Sounded t d f all) where
   pub merging-none : {n : ℕ} → n ≡ recordsBefore t (runCount t) → Merging t d (replicate 63 0) n 0
   unfolding cuts
   merging-none e =
@@ -68,7 +80,7 @@ module _ {d : ℕ} (t : List ℕ) (ready : Ready d (runsOf t)) where
         before = [];
         rest = view keyOf (runsOf t);
         stand = record { cut = cut-start (runsOf t); is = sym placesOf-none };
-        left-is = e ∙ sym (length-view ready ∙ total-runsOf t);
+        left-is = e ∙ sym (length-view (sounded-ready z) ∙ total-runsOf t);
         count-is = omega arith;
       }
 
@@ -78,10 +90,10 @@ module _ {d : ℕ} (t : List ℕ) (ready : Ready d (runsOf t)) where
   pub merging-end : {places : List ℕ} {left g : ℕ} → Merging t d places left g → left ≤ 0 → g ≡ length (cuts d (runsOf t))
   merging-end m l = omega (arith, m .count-is, ap length (pack-none d (m .rest) (omega (arith, m .left-is))))
 
-  module _ (fits : Fits (runsOf t)) {h : ℕ} (runs-are : h ≡ runCount t) {places seg places′ seg′ : List ℕ} {left g n : ℕ} (m : Merging t d places left g) (some : 0 < left)
-      (room : length seg ≡ 8 + 2 * h + d) (s : Segmented t h d places seg places′ seg′ n) where
+  module _ (b : Bytes t) {places seg places′ seg′ : List ℕ} {left g n : ℕ} (m : Merging t d places left g) (some : 0 < left)
+      (room : length seg ≡ 8 + 2 * f .runs + d) (s : Segmented t (f .runs) d places seg places′ seg′ n) where
     next : Cutting t d (m .before) (m .rest) places′ seg′ n
-    next = segment-is t ready fits runs-are (m .stand) (omega (arith, m .left-is)) room s
+    next = segment-is t (sounded-ready z) (sounded-fits z b) (z .opened .runs) (m .stand) (omega (arith, m .left-is)) room s
 
     -- the segment has some of the records that are left
     pub merging-less : (0 < n) × (n ≤ left)
@@ -99,19 +111,6 @@ module _ {d : ℕ} (t : List ℕ) (ready : Ready d (runsOf t)) where
           left-is = omega (arith, next .number, m .left-is, simp length-append at (ap length (next .parts)));
           count-is = omega (arith, m .count-is, ap length (next .packed));
         }
-
--- what the loops over the segments start from
-module _ {t : List ℕ} {d : ℕ} {f : TrayFrame} {n : ℕ} (s : Sounded t d f n) where
-  pub sounded-ready : Ready d (runsOf t)
-  sounded-ready = sound-ready (s .sound) (record { least = s .least; most = s .most })
-
-  pub sounded-fits : Bytes t → Fits (runsOf t)
-  sounded-fits b = fits-runs (s .sound .frame) b
-
-  pub sounded-reading : {places : List ℕ} → length places ≡ 63 → Reading t (f .counts) (f .starts) places
-  sounded-reading l =
-      let o = s .opened in
-      record { at = o .at; few = o .at .few; room-counts = o .room; room-places = l; counts-are = o .counts }
 
 -- a front of a list, lent and given back
 pub front-long : (w : ℕ) (s : List ℕ) {k : ℕ} → w ≤ length s → w ≡ k → length (take w s) ≡ k
@@ -138,22 +137,23 @@ pub record Writing (t : List ℕ) (d : ℕ) (out₀ places out : List ℕ) (left
   pub same : put out (segmentAt (runCount t) d g) (segmentsBytes d (runsOf t) (merging .before) (pack d (groups itemKey (merging .rest))))
       ≡ put out₀ 8 (segmentsBytes d (runsOf t) [] (cuts d (runsOf t)))
 
-module _ {d : ℕ} (t : List ℕ) (ready : Ready d (runsOf t)) where
+module _ {t : List ℕ} {d : ℕ} {f : TrayFrame} {all : ℕ} (z : Sounded t d f all) where
   pub writing-none : {out : List ℕ} {n : ℕ} → n ≡ recordsBefore t (runCount t) → Writing t d out (replicate 63 0) out n 0
   unfolding cuts merging-none segmentAt
-  writing-none e = record { merging = merging-none t ready e; room = refl; same = rw (zero-mul, add-zero) }
+  writing-none e = record { merging = merging-none z e; room = refl; same = rw (zero-mul, add-zero) }
 
   -- the next segment has room where the whole index has
-  pub writing-room : {out₀ places out : List ℕ} {left g a e h : ℕ} → h ≡ runCount t → indexSize d (runsOf t) ≤ length out₀ → Writing t d out₀ places out left g → 0 < left
-      → a ≡ segmentAt h d g → e ≡ segmentAt h d (g + 1) → (a ≤ e) × (e ≤ length out) × (e ≡ a + (8 + 2 * h + d))
+  pub writing-room : {out₀ places out : List ℕ} {left g a e : ℕ} → indexSize d (runsOf t) ≤ length out₀ → Writing t d out₀ places out left g → 0 < left
+      → a ≡ segmentAt (f .runs) d g → e ≡ segmentAt (f .runs) d (g + 1) → (a ≤ e) × (e ≤ length out) × (e ≡ a + (8 + 2 * f .runs + d))
   unfolding indexSize
-  writing-room {g = g} {a} {e} {h} runs-are fit w l p q =
-      let below : g < length (cuts d (runsOf t)) = merging-low t ready (w .merging) l in
+  writing-room {g = g} {a} {e} fit w l p q =
+      let h = f .runs in
+      let below : g < length (cuts d (runsOf t)) = merging-low z (w .merging) l in
       let next : e ≡ segmentAt h d (suc g) = q ∙ ap (segmentAt h d) (add-one g) in
       let long : segmentAt h d (suc g) ≡ segmentAt h d g + (8 + 2 * h + d) = segmentAt-next h d g in
       let inside : segmentAt h d (suc g) ≤ segmentAt h d (length (cuts d (runsOf t))) = segmentAt-le h d (suc g) (length (cuts d (runsOf t))) below in
       let same-runs : segmentAt h d (length (cuts d (runsOf t))) ≡ segmentAt (length (runsOf t)) d (length (cuts d (runsOf t))) =
-      ap (λ (k : ℕ). segmentAt k d (length (cuts d (runsOf t)))) (runs-are ∙ sym (length-runsOf t)) in
+      ap (λ (k : ℕ). segmentAt k d (length (cuts d (runsOf t)))) (z .opened .runs ∙ sym (length-runsOf t)) in
       (omega arith, omega (arith, w .room), omega arith)
 
   pub writing-end : {out₀ places out : List ℕ} {left g : ℕ} → Writing t d out₀ places out left g → left ≤ 0
@@ -165,26 +165,28 @@ module _ {d : ℕ} (t : List ℕ) (ready : Ready d (runsOf t)) where
       ∙ ap (λ (ss : List (List Item)). put out (segmentAt (runCount t) d g) (segmentsBytes d (runsOf t) (w .merging .before) ss)) (sym none-left)
       ∙ w .same
 
-  module _ (fits : Fits (runsOf t)) {h : ℕ} (runs-are : h ≡ runCount t) {out₀ places out seg places′ seg′ : List ℕ} {left g n : ℕ} (w : Writing t d out₀ places out left g) (some : 0 < left)
-      (fit : indexSize d (runsOf t) ≤ length out₀) (room : length seg ≡ 8 + 2 * h + d) (s : Segmented t h d places seg places′ seg′ n) where
+  module _ (b : Bytes t) {out₀ places out seg places′ seg′ : List ℕ} {left g n : ℕ} (w : Writing t d out₀ places out left g) (some : 0 < left)
+      (fit : indexSize d (runsOf t) ≤ length out₀) (room : length seg ≡ 8 + 2 * f .runs + d) (s : Segmented t (f .runs) d places seg places′ seg′ n) where
     cutting : Cutting t d (w .merging .before) (w .merging .rest) places′ seg′ n
-    cutting = next t ready fits runs-are (w .merging) some room s
+    cutting = next z b (w .merging) some room s
 
-    pub writing-more : {out′ : List ℕ} {a : ℕ} → a ≡ segmentAt h d g → out′ ≡ put out a seg′ → Writing t d out₀ places′ out′ (left - n) (g + 1)
+    pub writing-more : {out′ : List ℕ} {a : ℕ} → a ≡ segmentAt (f .runs) d g → out′ ≡ put out a seg′ → Writing t d out₀ places′ out′ (left - n) (g + 1)
     unfolding merging-more segmentsBytes headSize cutting
     writing-more {out′} {a} p q =
+        let h = f .runs in
+        let runs-are : f .runs ≡ runCount t = z .opened .runs in
         let own = cutting .own in
         let after = pack d (groups itemKey (cutting .left)) in
         let first = segmentBytes d (runsOf t) (w .merging .before) own in
         let others = segmentsBytes d (runsOf t) (w .merging .before ++ own) after in
         let long : length first ≡ headSize (length (runsOf t)) + d = length-segmentBytes d (runsOf t) (w .merging .before) own (omega (arith, cutting .number, s .short)) in
         let size : 2 * length (runsOf t) ≡ 2 * h = ap (λ (k : ℕ). 2 * k) (length-runsOf t ∙ sym runs-are) in
-        let ends = writing-room runs-are fit w some p refl in
+        let ends = writing-room fit w some p refl in
         let here : a ≡ segmentAt (runCount t) d g = p ∙ ap (λ (k : ℕ). segmentAt k d g) runs-are in
         let next-at : segmentAt (runCount t) d (g + 1) ≡ a + length first = ap (λ (k : ℕ). segmentAt k d (g + 1)) (sym runs-are) ∙ omega (arith, ends .2, long, size) in
         let out-is : out′ ≡ put out a first = q ∙ ap (put out a) (cutting .bytes) in
         record {
-          merging = merging-more t ready fits runs-are (w .merging) some room s;
+          merging = merging-more z b (w .merging) some room s;
           room = ap length out-is ∙ length-put out a first (omega (arith, ends .1, ends .2, long, size)) ∙ w .room;
           same =
               ap₂ (λ (o : List ℕ) (k : ℕ). put o k others) out-is next-at

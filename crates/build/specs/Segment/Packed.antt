@@ -1,7 +1,6 @@
 -- Records packed into a segment: as many whole keys as fit.
 --     pack-front      the front of what is left is the next segment, where it is made of whole keys, fits, and the next key does not
 --     first-long      records of one key at the front are in the first group
--- Assumes nothing.
 use mathlib.Core.Path.{_≡_, refl, sym, ap, _∙_}
 use Prim.Native.Nat.{ℕ, _+_, _≤_, _<_}
 use native.Mathlib.Omega.{arith}

@@ -1,6 +1,5 @@
 -- What the code of a segment comes to: as it is written it is the next one of the cuts.
 --     Cutting, segment-is     the segment that was written, and what is left after it
--- Assumes nothing.
 use mathlib.Core.Path.{_≡_, refl, sym, ap, ap₂, _∙_}
 use Prim.Native.Nat.{ℕ, _+_, _-_, _*_, _≤_, _<_, zero-le}
 use native.Mathlib.Nat.{zero-add}

@@ -1,4 +1,4 @@
--- `build_marks::cut_back` meets its contract. Invariant: the selectors from i on have been given back. Measure: i. Assumes nothing.
+-- `build_marks::cut_back` meets its contract. Invariant: the selectors from i on have been given back. Measure: i.
 use Prim.Native.Nat.{_-_}
 use mathlib.Core.Path.{refl}
 use Rattle.build_marks.specs.Code.Records.{Backing, backing-none, backing-on, backing-stop, backing-end}
@@ -6,10 +6,6 @@ use native.Mathlib.Omega.{arith}
 use borrow.Author.Needs.{needs}
 use Rattle.build_marks.proofs.cut_back.Statement.{statement}
 use Rattle.build_marks.proofs.cut_back.Tie as tie
-use Rattle.build_marks.proofs.cut_back.Reads as reads
-use Rattle.build_marks.proofs.cut_back.Lts as lts
-use Rattle.build_marks.proofs.less.Reads as less-reads
-use Rattle.number.proofs.wide_size.Reads as wide-size-reads
 
 abbrev Inv-loop : tie.InvT-loop
 Inv-loop seg from at places₀ i₀ places i = Backing seg from at places₀ places i
@@ -32,22 +28,22 @@ shared-slice-read-v c =
     let selecting = c .before .before .before .before .before .pre .0 in
     omega (arith, loop-test .taken, loop .inv .inside, selecting .room)
 
-wide-size-requires : tie.Need-wide-size-requires Inv-loop μ-loop
-wide-size-requires c κs = search needs
+usize-of-u8-requires : tie.Need-usize-of-u8-requires Inv-loop μ-loop
+usize-of-u8-requires c κs = search needs
 
 mul-less : tie.Need-mul-less Inv-loop μ-loop
 mul-less c = search needs
 
 slice-read-less : tie.Need-slice-read-less Inv-loop μ-loop
 slice-read-less c =
-    let wide-size = c .before .wide-size in
+    let usize-of-u8 = c .before .usize-of-u8 in
     let back = c .before .before .before in
     let loop-test = back .loop-test in
     let loop = back .before .loop in
     let pre = back .before .before .before .before .pre in
     let selecting = back .before .before .before .before .pre .0 in
     let l = selecting .runs (loop .i - 1) (omega (arith, loop-test .taken)) (omega (arith, loop-test .taken, loop .inv .inside)) in
-    omega (arith, l, wide-size .ensures, loop .inv .room, pre .1)
+    omega (arith, l, usize-of-u8 .ensures, loop .inv .room, pre .1)
 
 less-requires : tie.Need-less-requires Inv-loop μ-loop
 less-requires c κs = search needs
@@ -58,13 +54,13 @@ mul-places c = search needs
 slice-write-places : tie.Need-slice-write-places Inv-loop μ-loop
 slice-write-places c =
     let back = c .before .before in
-    let wide-size = back .wide-size in
+    let usize-of-u8 = back .usize-of-u8 in
     let loop-test = back .before .before .loop-test in
     let loop = back .before .before .before .loop in
     let pre = back .before .before .before .before .before .before .pre in
     let selecting = back .before .before .before .before .before .before .pre .0 in
     let l = selecting .runs (loop .i - 1) (omega (arith, loop-test .taken)) (omega (arith, loop-test .taken, loop .inv .inside)) in
-    omega (arith, l, wide-size .ensures, loop .inv .room, pre .1)
+    omega (arith, l, usize-of-u8 .ensures, loop .inv .room, pre .1)
 
 same-length : tie.Need-same-length Inv-loop μ-loop
 same-length c = search needs
@@ -72,10 +68,10 @@ same-length c = search needs
 returns : tie.Need-returns Inv-loop μ-loop
 returns c =
     let less = c .before .less in
-    let wide-size = c .before .before .before .wide-size in
+    let usize-of-u8 = c .before .before .before .usize-of-u8 in
     let loop-test = c .before .before .before .before .before .loop-test in
     let loop = c .before .before .before .before .before .before .loop in (
-      backing-stop (loop .inv) (loop-test .taken) refl refl (wide-size .ensures) (less .ensures) (c .if1 .taken),
+      backing-stop (loop .inv) (loop-test .taken) refl refl (usize-of-u8 .ensures) (less .ensures) (c .if1 .taken),
       (omega (arith, loop-test .taken), omega (arith, loop-test .taken, loop .inv .inside)),
     )
 
@@ -87,10 +83,10 @@ loop-less c =
 loop-again : tie.Need-loop-again Inv-loop μ-loop
 loop-again c =
     let less = c .before .less in
-    let wide-size = c .before .before .before .wide-size in
+    let usize-of-u8 = c .before .before .before .usize-of-u8 in
     let loop-test = c .before .before .before .before .before .loop-test in
     let loop = c .before .before .before .before .before .before .loop in
-    backing-on (loop .inv) (loop-test .taken) refl refl (wide-size .ensures) (less .ensures) (c .if1 .left)
+    backing-on (loop .inv) (loop-test .taken) refl refl (usize-of-u8 .ensures) (less .ensures) (c .if1 .left)
 
 same-length-2 : tie.Need-same-length-2 Inv-loop μ-loop
 same-length-2 c = search needs
@@ -109,7 +105,7 @@ cut-back-spec =
     loop-holds
     sub-i
     shared-slice-read-v
-    wide-size-requires
+    usize-of-u8-requires
     mul-less
     slice-read-less
     less-requires

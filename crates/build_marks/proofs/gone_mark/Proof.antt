@@ -1,4 +1,4 @@
--- `build_marks::gone_mark` meets its contract: the test that was taken is the one that the mark says. Assumes nothing.
+-- `build_marks::gone_mark` meets its contract: the test that was taken is the one that the mark says.
 use borrow.Author.Tests.{eq-eqb, ne-eqb}
 use Rattle.build_marks.proofs.gone_mark.Statement.{statement}
 use Rattle.build_marks.proofs.gone_mark.Tie as tie

@@ -1,9 +1,7 @@
--- `build_marks::old_mark` meets its contract: the test that was taken is the one that the mark says. Assumes nothing.
+-- `build_marks::old_mark` meets its contract: the test that was taken is the one that the mark says.
 use Rattle.build_marks.specs.Code.Records.{old-same, old-other}
 use Rattle.build_marks.proofs.old_mark.Statement.{statement}
 use Rattle.build_marks.proofs.old_mark.Tie as tie
-use Rattle.build_marks.proofs.old_mark.Reads as reads
-use Rattle.build_marks.proofs.old_mark.Lts as lts
 
 returns : tie.Need-returns
 returns c = old-same _ _ (c .if1 .taken)

@@ -1,9 +1,7 @@
--- `build_marks::other_key` meets its contract. Assumes nothing.
+-- `build_marks::other_key` meets its contract.
 use Rattle.build_marks.specs.Code.Records.{other-none, other-some}
 use Rattle.build_marks.proofs.other_key.Statement.{statement}
 use Rattle.build_marks.proofs.other_key.Tie as tie
-use Rattle.build_marks.proofs.other_key.Reads as reads
-use Rattle.build_marks.proofs.other_key.Lts as lts
 
 returns : tie.Need-returns
 returns c = other-none _ (c .if1 .taken)

@@ -3,7 +3,6 @@
 --     Came, next-first             the record of the run that comes next
 --     none-left                    where no run comes next nothing is left
 --     least-first                  the least key left is the first record's
--- Assumes nothing.
 use mathlib.Core.Path.{_≡_, refl, sym, ap, _∙_}
 use Prim.Native.Nat.{ℕ, _*_, _+_, _^_, _≤_, _<_}
 use native.Mathlib.Nat.{zero-add}

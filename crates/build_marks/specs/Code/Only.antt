@@ -4,7 +4,6 @@
 --     only-key, only-spelled               its next key and its next selector, as they are read from the run's own bytes
 --     only-more, only-end, only-over       its records, one by one
 --     only-segment                         a segment of them
--- Assumes nothing.
 use mathlib.Core.Path.{_≡_, refl, sym, ap, _∙_, subst}
 use Prim.Native.Nat.{ℕ, _+_, _≤_, _<_}
 use native.Mathlib.Omega.{arith}

@@ -5,7 +5,6 @@
 --     Backing, backing-none, -on, -stop, -end
 --     fills-cut, fills-other, fills-over       the keys of a segment
 --     reading-on                               places moved
--- Assumes nothing.
 use mathlib.Core.Path.{_≡_, refl, sym, ap, ap₂, _∙_, subst}
 use Prim.Native.Nat.{ℕ, suc, _+_, _-_, _%_, _≤_, _<_}
 use native.Mathlib.Omega.{arith}

@@ -2,7 +2,6 @@
 --     marksOn, lastKey                  the selectors of records after one with a key, and the key of the last
 --     marksOn-snoc, lastKey-snoc, ..    one record more
 --     spells                            of records after a cut these are the selectors
--- Assumes nothing.
 use mathlib.Core.Path.{_≡_, refl, ap}
 use Prim.Native.Nat.{ℕ, suc}
 use mathlib.Core.List.{List, [], _∷_, _++_, map}

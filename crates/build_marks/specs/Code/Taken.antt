@@ -1,7 +1,6 @@
 -- What the steps of the code come to: the records that are taken are the next ones of the view, and their selectors are written.
 --     Taken, steps-taken     the records that the steps take, and what is left
 --     steps-select           what they write are selectors of runs
--- Assumes nothing.
 use mathlib.Core.Path.{_≡_, refl, sym, ap, ap₂, _∙_}
 use Prim.Native.Nat.{ℕ, _+_, _%_, _≤_, _<_}
 use native.Mathlib.Omega.{arith}

@@ -2,7 +2,6 @@
 --     put-before                                   what stands before something that was written
 --     offsets-end, offsets-next                    the offsets, run by run
 --     holders-end, holders-next                    the placeholders, byte by byte
--- Assumes nothing.
 use mathlib.Core.Path.{_≡_, ap, ap₂, _∙_, subst}
 use Prim.Native.Nat.{ℕ, suc, _+_, _-_, _*_, _≤_, _<_}
 use native.Mathlib.Nat.{zero-add, sub-zero}

@@ -4,7 +4,6 @@
 --     keys-built        all versions of a key share a segment
 --     right-built       a segment is right
 --     accepted-built    the index is accepted
--- Assumes nothing.
 use mathlib.Core.Path.{_≡_, refl, sym, ap, _∙_, subst}
 use Prim.Native.Nat.{ℕ, zero, suc, _+_, _-_, _≤_, _<_}
 use native.Mathlib.Nat.{add-zero, add-suc, suc-add, zero-add}

@@ -5,7 +5,6 @@
 --     bytes-segmentsBytes, bytes-indexBytes     they are bytes
 --     runAt-has, total-short                    what all runs have, and how many records they have at most
 --     cuts-anchor, cuts-count, cuts-few         anchors, offsets and the segment count fit into their bytes
--- Assumes nothing.
 use mathlib.Core.Path.{_≡_, refl, sym, _∙_}
 use Prim.Native.Nat.{ℕ, zero, suc, _+_, _-_, _*_, _^_, _≤_, _<_}
 use native.Mathlib.Nat.{zero-mul, suc-mul, div-le-self}

@@ -9,7 +9,6 @@
 --     count-before                 in a front of the view stand at most all records of a run
 --     length-view                  the view has all records
 --     cuts-bound, cuts-most        how many segments there are
--- Assumes nothing.
 use mathlib.Core.Path.{_≡_, refl, sym, ap, _∙_}
 use Prim.Native.Nat.{ℕ, suc, _+_, _*_, _/_, _≤_, _<_, zero-le}
 use native.Mathlib.Nat.{zero-add}

@@ -4,7 +4,6 @@
 --     read-size, read-count           D and S as they are read
 --     read-frame                      the frame holds
 --     read-segments                   the segments that the bytes spell
--- Assumes nothing.
 use mathlib.Core.Path.{_≡_, refl, sym, _∙_}
 use Prim.Native.Nat.{ℕ, zero, suc, _+_, _-_, _*_, _^_, _≤_, _<_}
 use native.Mathlib.Nat.{add-zero, zero-mul, suc-mul}

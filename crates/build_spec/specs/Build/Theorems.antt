@@ -1,5 +1,5 @@
--- The index that is built for a sound tray (document 01, "The index"): its frame, its segments, that it is accepted, and how many segments
--- it has. How long it is and that it is bytes: `length-indexBytes` and `bytes-indexBytes`, by `sound-ready`. Assumes nothing.
+-- The index that is built for a sound tray (docs/RULES.md, "The index"): its frame, its segments, that it is accepted, and how many segments
+-- it has. How long it is and that it is bytes: `length-indexBytes` and `bytes-indexBytes`, by `sound-ready`.
 use mathlib.Core.Path.{_≡_, _∙_}
 use Prim.Native.Nat.{ℕ, _+_, _*_, _/_, _≤_}
 use mathlib.Core.List.{List, []}

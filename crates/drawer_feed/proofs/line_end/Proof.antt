@@ -1,4 +1,4 @@
--- `drawer_feed::line_end` meets its contract. Invariant: no line feed before place i. Measure: the bytes left of the piece. Assumes nothing.
+-- `drawer_feed::line_end` meets its contract. Invariant: no line feed before place i. Measure: the bytes left of the piece.
 use Prim.Native.Nat.{_-_}
 use lib.ListN.{length}
 use Rattle.drawer_spec.specs.Feed.Code.{Seeking, seeking-none, seeking-found, seeking-more, seeking-end}

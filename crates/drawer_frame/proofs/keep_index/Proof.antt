@@ -1,4 +1,4 @@
--- `drawer_frame::keep_index` meets its contract: a way out for each answer of build. Assumes nothing.
+-- `drawer_frame::keep_index` meets its contract: a way out for each answer of build.
 use Rattle.drawer_spec.specs.Line.Code.{front-length, index-front, index-kept, index-refused}
 use native.Mathlib.Omega.{arith}
 use borrow.Author.Needs.{needs}

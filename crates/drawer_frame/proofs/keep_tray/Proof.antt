@@ -1,4 +1,4 @@
--- `drawer_frame::keep_tray` meets its contract: a way out for each answer of check tray. Assumes nothing.
+-- `drawer_frame::keep_tray` meets its contract: a way out for each answer of check tray.
 use Rattle.drawer_spec.specs.Line.Code.{tray-kept, tray-refused}
 use borrow.Author.Needs.{needs}
 use Rattle.drawer_frame.proofs.keep_tray.Statement.{statement}

@@ -1,4 +1,4 @@
--- `drawer_frame::key_of` meets its contract: eight bytes one by one are the key. Assumes nothing.
+-- `drawer_frame::key_of` meets its contract: eight bytes one by one are the key.
 use Rattle.drawer_spec.specs.Line.Code.{key-whole}
 use borrow.Author.Needs.{needs}
 use Rattle.drawer_frame.proofs.key_of.Statement.{statement}

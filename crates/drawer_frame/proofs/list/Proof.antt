@@ -1,4 +1,4 @@
--- `drawer_frame::list` meets its contract: a way out for each answer of sheet. Assumes nothing.
+-- `drawer_frame::list` meets its contract: a way out for each answer of sheet.
 use Rattle.drawer_spec.specs.Line.Code.{front-length, sheet-front, sheet-listed, sheet-refused}
 use native.Mathlib.Omega.{arith}
 use borrow.Author.Needs.{needs}

@@ -1,4 +1,4 @@
--- `drawer_frame::look_up` meets its contract: a way out for each answer of get. Assumes nothing.
+-- `drawer_frame::look_up` meets its contract: a way out for each answer of get.
 use Rattle.drawer_spec.specs.Line.Code.{got-length, get-found, get-absent, get-refused}
 use native.Mathlib.Omega.{arith}
 use borrow.Author.Needs.{needs}

@@ -1,4 +1,4 @@
--- `drawer_io::end_input` is safe: what is filled lies within the output. Assumes nothing.
+-- `drawer_io::end_input` is safe: what is filled lies within the output.
 use lib.Seq.{length-take-le}
 use mathlib.Core.Path.{sym}
 use native.Mathlib.Omega.{arith}

@@ -1,4 +1,4 @@
--- `drawer_io::read_all` is safe and ends. Invariant: one more answer line has room. Measure: the turns left. Assumes nothing.
+-- `drawer_io::read_all` is safe and ends. Invariant: one more answer line has room. Measure: the turns left.
 use lib.ListN.{length}
 use mathlib.Core.Path.{_≡_, refl, sym, _∙_}
 use Rattle.drawer_serve.specs.Ready.{Ready, ready-first}
@@ -14,13 +14,13 @@ abbrev μ-loop : tie.MeasureT-loop
 μ-loop input₀ line₀ tray₀ index₀ frame₀ room₀ output₀ state₀ turns₀ input line tray index frame room output state turns =
     turns
 
-begin-requires : tie.Need-begin-requires Inv-loop μ-loop
-begin-requires c κs = tt
+begin-input-requires : tie.Need-begin-input-requires Inv-loop μ-loop
+begin-input-requires c κs = tt
 
 loop-holds : tie.Need-loop-holds Inv-loop μ-loop
 loop-holds c =
     let buffers = c .before .before .before .before .before .before .before .before .pre in
-    (ready-first (c .begin .ensures) buffers, refl)
+    (ready-first (c .begin-input .ensures) buffers, refl)
 
 read-some-requires : tie.Need-read-some-requires Inv-loop μ-loop
 read-some-requires c κs =
@@ -155,7 +155,7 @@ read-all-spec =
     (tie.spec
     Inv-loop
     μ-loop
-    begin-requires
+    begin-input-requires
     loop-holds
     read-some-requires
     sub-turns

@@ -1,4 +1,4 @@
--- `drawer_io::read_some` meets its contract: where it goes on, one more answer line has room. Assumes nothing.
+-- `drawer_io::read_some` meets its contract: where it goes on, one more answer line has room.
 use lib.Seq.{length-take-le}
 use mathlib.Core.Path.{sym}
 use native.Mathlib.Omega.{arith}

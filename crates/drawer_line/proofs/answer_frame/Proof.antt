@@ -1,4 +1,4 @@
--- `drawer_line::answer_frame` meets its contract: a way out for each kind. Assumes nothing.
+-- `drawer_line::answer_frame` meets its contract: a way out for each kind.
 use lib.Seq.{length-take-le}
 use lib.ListN.{take}
 use mathlib.Core.Path.{sym}

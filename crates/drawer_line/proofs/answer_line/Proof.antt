@@ -1,4 +1,4 @@
--- `drawer_line::answer_line` meets its contract: a well formed line is heard as its frame, any other is ignored. Assumes nothing.
+-- `drawer_line::answer_line` meets its contract: a well formed line is heard as its frame, any other is ignored.
 use lib.ListN.{take}
 use mathlib.Core.Path.{sym, _∙_}
 use Rattle.drawer_spec.specs.Turns.{formed-known, answered-line, answered-bad, turn-ignored, decoded}

@@ -1,4 +1,4 @@
--- `drawer_line::answer_read` meets its contract: a way out for each kind. Assumes nothing.
+-- `drawer_line::answer_read` meets its contract: a way out for each kind.
 use Rattle.drawer_spec.specs.Turns.{read-get, read-wrong, read-list, read-unknown}
 use borrow.Author.Needs.{needs}
 use Rattle.drawer_line.proofs.answer_read.Statement.{statement}

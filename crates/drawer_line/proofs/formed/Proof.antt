@@ -1,4 +1,4 @@
--- `drawer_line::formed` meets its contract: a way out for each part of the test. Assumes nothing.
+-- `drawer_line::formed` meets its contract: a way out for each part of the test.
 use mathlib.Core.Path.{_∙_}
 use Rattle.drawer_spec.specs.Turns.{formed-empty, formed-rest, formed-long, formed-odd}
 use borrow.Author.Needs.{needs}

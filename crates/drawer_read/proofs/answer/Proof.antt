@@ -1,4 +1,4 @@
--- `drawer_read::answer` meets its contract: the answer line stands behind what the output held. Assumes nothing.
+-- `drawer_read::answer` meets its contract: the answer line stands after what the output held.
 use Prim.Native.Nat.{_+_, _-_}
 use Rattle.drawer_spec.specs.Feed.Code.{answered-rooms, answered-line}
 use native.Mathlib.Omega.{arith}

@@ -1,4 +1,4 @@
--- `drawer_read::end_line` meets its contract: the line is the part alone, or what was gathered and the part. Assumes nothing.
+-- `drawer_read::end_line` meets its contract: the line is the part alone, or what was gathered and the part.
 use lib.Seq.{length-take-le}
 use mathlib.Core.Path.{sym}
 use Rattle.drawer_spec.specs.Feed.Code.{ends-whole, ends-gathered}
@@ -46,17 +46,17 @@ returns c =
     let pre = back .pre in
     (answer .ensures .0, ends-whole (args .part .now) (args .line .now) (pre .1 .0) (if1 .taken) (answer .ensures .1))
 
-gather-requires : tie.Need-gather-requires
-gather-requires c κs = search needs
+gather-line-requires : tie.Need-gather-line-requires
+gather-line-requires c κs = search needs
 
 slice-reshare-prefix-answer : tie.Need-slice-reshare-prefix-answer
 slice-reshare-prefix-answer c = search needs
 
 slice-aggregate-answer : tie.Need-slice-aggregate-answer
 slice-aggregate-answer c =
-    let gather = c .before .before .before .gather in
+    let gather-line = c .before .before .before .gather-line in
     let pre = c .before .before .before .before .before .before .before .before .before .before .before .before .before .pre in
-    sym (length-take-le _ _ (omega (arith, gather .ensures .fits, gather .ensures .room-is, pre .1)))
+    sym (length-take-le _ _ (omega (arith, gather-line .ensures .fits, gather-line .ensures .room-is, pre .1)))
 
 answer-requires-2 : tie.Need-answer-requires-2
 answer-requires-2 c κs = search needs
@@ -65,7 +65,7 @@ same-length-6 : tie.Need-same-length-6
 same-length-6 c =
     let gather-line-kept =
     c .before .before .before .before .before .before .before .before .before .before .before .before .before .before .before .before .before .before
-    .before .gather .kept .1 .0 in
+    .before .gather-line .kept .1 .0 in
     gather-line-kept
 
 same-length-7 : tie.Need-same-length-7
@@ -98,9 +98,9 @@ returns-2 c =
     let back = c .before .before .before .before .before .before .before .before .before .before in
     let answer2 = back .answer2 in
     let back = back .before .before .before .before .before .before .before .before .before in
-    let gather = back .gather in
+    let gather-line = back .gather-line in
     let args = back .before .before .before .before .before .before .before .before .before .before .args in
-    (answer2 .ensures .0, ends-gathered (args .part .now) (args .line .now) (gather .ensures) (answer2 .ensures .1))
+    (answer2 .ensures .0, ends-gathered (args .part .now) (args .line .now) (gather-line .ensures) (answer2 .ensures .1))
 
 pub end-line-spec : {M : Type 1} → statement M
 end-line-spec =
@@ -113,7 +113,7 @@ end-line-spec =
     same-length-4
     same-length-5
     returns
-    gather-requires
+    gather-line-requires
     slice-reshare-prefix-answer
     slice-aggregate-answer
     answer-requires-2

@@ -1,4 +1,4 @@
--- `drawer_read::finish` meets its contract: where nothing is gathered no line is left. Assumes nothing.
+-- `drawer_read::finish` meets its contract: where nothing is gathered no line is left.
 use lib.Seq.{length-take-le}
 use mathlib.Core.Path.{sym}
 use Rattle.drawer_spec.specs.Feed.Code.{finishes-none, finishes-line}

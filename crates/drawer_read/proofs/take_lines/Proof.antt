@@ -1,5 +1,4 @@
 -- `drawer_read::take_lines` meets its contract. Invariant: what is carried is what it was, fed with the piece up to place i. Measure: the bytes left.
--- Assumes nothing.
 use mathlib.Core.Path.{sym, _∙_}
 use Prim.Native.Nat.{_-_}
 use lib.ListN.{length}
@@ -27,31 +26,31 @@ line-end-requires c κs =
     let loop = c .before .before .loop in
     loop .inv .high
 
-sub-gather : tie.Need-sub-gather Inv-loop μ-loop
-sub-gather c =
+sub-gather-line : tie.Need-sub-gather-line Inv-loop μ-loop
+sub-gather-line c =
     let loop = c .before .before .before .before .before .loop in
     omega (arith, loop .inv .high)
 
-part-gather-start : tie.Need-part-gather-start Inv-loop μ-loop
-part-gather-start c =
+part-gather-line-start : tie.Need-part-gather-line-start Inv-loop μ-loop
+part-gather-line-start c =
     let loop = c .before .before .before .before .before .loop in
     loop .inv .high
 
-part-gather-end : tie.Need-part-gather-end Inv-loop μ-loop
-part-gather-end c = omega arith
+part-gather-line-end : tie.Need-part-gather-line-end Inv-loop μ-loop
+part-gather-line-end c = omega arith
 
-gather-requires : tie.Need-gather-requires Inv-loop μ-loop
-gather-requires c κs =
+gather-line-requires : tie.Need-gather-line-requires Inv-loop μ-loop
+gather-line-requires c κs =
     let loop = c .before .before .before .before .before .before .before .loop in
     (loop .inv .line-room, loop .inv .gathers)
 
 same-length : tie.Need-same-length Inv-loop μ-loop
 same-length c =
-    let gather = c .before .before .gather in
+    let gather-line = c .before .before .gather-line in
     let back = c .before .before .before .before .before .before .before .before .before .before in
     let loop = back .loop in
     let pre = back .before .before .before .before .before .before .before .before .pre in
-    omega (arith, gather .kept, loop .inv .line-room, pre .1 .0)
+    omega (arith, gather-line .kept, loop .inv .line-room, pre .1 .0)
 
 same-length-2 : tie.Need-same-length-2 Inv-loop μ-loop
 same-length-2 c =
@@ -90,12 +89,12 @@ same-length-6 c =
 
 returns : tie.Need-returns Inv-loop μ-loop
 returns c =
-    let gather = c .before .before .gather in
+    let gather-line = c .before .before .gather-line in
     let back = c .before .before .before .before .before .before in
     let if2 = back .if2 in
     let line-end = back .before .line-end in
     let loop = back .before .before .before .before .loop in
-    (rest-rooms (loop .inv), takes-rest (loop .inv) (line-end .ensures) (if2 .taken) (gather .ensures))
+    (rest-rooms (loop .inv), takes-rest (loop .inv) (line-end .ensures) (if2 .taken) (gather-line .ensures))
 
 sub-end-line : tie.Need-sub-end-line Inv-loop μ-loop
 sub-end-line c =
@@ -197,10 +196,10 @@ take-lines-spec =
     μ-loop
     loop-holds
     line-end-requires
-    sub-gather
-    part-gather-start
-    part-gather-end
-    gather-requires
+    sub-gather-line
+    part-gather-line-start
+    part-gather-line-end
+    gather-line-requires
     same-length
     same-length-2
     same-length-3

@@ -1,4 +1,4 @@
--- `drawer_serve::make_room` meets its contract: what is carried stays, but for what is written. Assumes nothing.
+-- `drawer_serve::make_room` meets its contract: what is carried stays, but for what is written.
 use lib.Seq.{length-take-le}
 use mathlib.Core.Logic.{inl, inr}
 use mathlib.Core.Path.{refl, sym}

@@ -1,4 +1,4 @@
--- `drawer_serve::serve` meets its contract. Invariant: the piece is taken up to a place, and one more answer line has room. Measure: the bytes left of the piece. Assumes nothing.
+-- `drawer_serve::serve` meets its contract. Invariant: the piece is taken up to a place, and one more answer line has room. Measure: the bytes left of the piece.
 use Prim.Native.Nat.{_-_}
 use lib.ListN.{length}
 use mathlib.Core.Path.{refl, sym, _∙_}

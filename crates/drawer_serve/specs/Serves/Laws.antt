@@ -4,7 +4,6 @@
 --     leaves-room                        room made: what stood in the output stands there still, or is written
 --     serving-none, serving-more, serving-all     the loop of `serve`: its start, a turn, its end
 --     ready-more                         room for one more answer line, on every way out
--- Assumes nothing.
 use mathlib.Core.Path.{_≡_, refl, sym, ap, _∙_}
 use mathlib.Core.Logic.{⊎-elim}
 use mathlib.Core.Bool.{Bool, true, false, cond}

@@ -1,14 +1,14 @@
 -- What the code promises of what it carries, and what its ways out need.
--- Assumes nothing.
 use mathlib.Core.Path.{_≡_, refl, sym, ap, ap₂, _∙_, subst}
 use mathlib.Core.Logic.{_⊎_, ⊎-elim}
 use native.Mathlib.Nat.{eq-or-lt-of-le}
 use Prim.Native.Nat.{ℕ, zero, suc, _+_, _-_, _%_, _^_, _≤_, _<_}
 use native.Mathlib.Omega.{arith}
-use mathlib.Core.List.{List, [], _∷_, _++_, append-nil, append-assoc}
-use lib.ListN.{length, getD, take, drop, length-append, length-drop, drop-of-length-le}
-use lib.Seq.{length-take-le, take-all, take-at, take-take, take-add, drop-drop, drop-cons, getD-take, getD-drop, take-append-add, take-append-le}
+use mathlib.Core.List.{List, [], _∷_, _++_}
+use lib.ListN.{length, getD, take, drop, length-append, length-drop}
+use lib.Seq.{length-take-le, take-all, take-take, take-add, drop-drop, drop-cons, getD-take, getD-drop, take-append-add, take-append-le}
 use Rattle.number.specs.Big.{put}
+use Rattle.number.specs.Big.Writes.{length-put, take-put}
 use Rattle.theory.specs.Tests.{never}
 use Rattle.drawer_spec.specs.Line.Front.{traySize, lineSize, Front}
 use Rattle.drawer_spec.specs.declared.Told.{Told}
@@ -107,7 +107,7 @@ pub record Answers (line : List ℕ) (carried : Carried) (tray index output : Li
       → Keeps after tray₁ index₁ output₁ (ended p)
   pub emptied : after .gathered ≡ 0
 
--- a line feed behind some characters
+-- a line feed after some characters
 pub record Ends (part : List ℕ) (carried : Carried) (line tray index output : List ℕ) (after : Carried) (line₁ tray₁ index₁ output₁ : List ℕ) : Type 0 where
   pub turned : (p : Progress) → Stands carried line tray index output p → Stands after line₁ tray₁ index₁ output₁ (ended (more p part))
   pub gathers : after .gathered ≤ gatherSize
@@ -126,11 +126,6 @@ pub record Finishes (carried : Carried) (line tray index output : List ℕ) (aft
   pub closed : (p : Progress) → Stands carried line tray index output p → Keeps after tray₁ index₁ output₁ (finished p)
 
 -- laws of lists
--- a part written over another of its length
-put-whole : (s ys : List ℕ) → length ys ≡ length s → put s 0 ys ≡ ys
-unfolding put
-put-whole s ys e = ap (λ (l : List ℕ). ys ++ l) (drop-of-length-le s {i = 0 + length ys} (omega arith)) ∙ append-nil ys
-
 -- a list cut, and put before another that is cut
 cut-append : (n : ℕ) (xs ys : List ℕ) → take n (take n xs ++ ys) ≡ take n (xs ++ ys)
 cut-append zero xs ys = refl
@@ -144,59 +139,40 @@ cut-none n (x ∷ xs) e = never (cc)
 
 -- gather
 module _ (part line : List ℕ) (g : ℕ) (room : length line ≡ gatherSize) where
-  -- a part of the buffer lent and written over
-  over : (k : ℕ) (bytes : List ℕ) {ys : List ℕ} → g + k ≤ length line → length bytes ≡ k → ys ≡ put (take k (drop g line)) 0 bytes
-      → take g line ++ (ys ++ drop k (drop g line)) ≡ (take g line ++ bytes) ++ drop k (drop g line)
-  over k bytes {ys} l e is =
-      let lent : length (take k (drop g line)) ≡ k = length-take-le k (drop g line) (simp length-drop (omega arith)) in
-      let whole : ys ≡ bytes = is ∙ put-whole (take k (drop g line)) bytes (e ∙ sym lent) in
-      ap (λ (zs : List ℕ). take g line ++ (zs ++ drop k (drop g line))) whole ∙ sym (append-assoc (take g line) bytes (drop k (drop g line)))
-
-  -- so what was gathered and the bytes stand at the front
-  front-over : (k : ℕ) (bytes : List ℕ) {ys : List ℕ} → g + k ≤ length line → length bytes ≡ k → ys ≡ put (take k (drop g line)) 0 bytes
-      → Front (g + k) gatherSize (take g line ++ (ys ++ drop k (drop g line))) (take g line ++ bytes)
-  front-over k bytes {ys} l e is =
-      let front : length (take g line ++ bytes) ≡ g + k =
-      length-append (take g line) bytes ∙ ap₂ (λ (m n : ℕ). m + n) (length-take-le g line (omega arith)) e in
-      let rest = drop k (drop g line) in
-      let behind : length rest ≡ length line - g - k = length-drop k (drop g line) ∙ ap (λ (m : ℕ). m - k) (length-drop g line) in
-      let same = over k bytes l e is in
+  -- what was gathered, and the bytes written after it, stand at the front
+  front-put : (bytes : List ℕ) {ys : List ℕ} → g + length bytes ≤ length line → ys ≡ put line g bytes
+      → Front (g + length bytes) gatherSize ys (take g line ++ bytes)
+  front-put bytes {ys} l is =
       record {
-        room-is = ap length same ∙ length-append (take g line ++ bytes) rest ∙ omega arith;
+        room-is = ap length is ∙ length-put line g bytes l ∙ room;
         fits = omega arith;
-        is = ap (take (g + k)) same ∙ take-at (take g line ++ bytes) rest (g + k) front;
+        is = ap (take (g + length bytes)) is ∙ take-put line g bytes (omega arith);
       }
 
-  pub gather-fits : {ys : List ℕ} → length part ≤ gatherSize - g → g ≤ gatherSize
-      → ys ≡ put (take (g + length part - g) (drop g line)) 0 part
-      → Front (g + length part) gatherSize (take g line ++ (ys ++ drop (g + length part - g) (drop g line))) (take gatherSize (take g line ++ part))
+  pub gather-fits : {ys : List ℕ} → length part ≤ gatherSize - g → g ≤ gatherSize → ys ≡ put line g part
+      → Front (g + length part) gatherSize ys (take gatherSize (take g line ++ part))
   gather-fits {ys} l h is =
-      let n = length part in
-      let k : g + n - g ≡ n = omega arith in
-      let all : length (take g line ++ part) ≡ g + n = length-append (take g line) part ∙ ap (λ (m : ℕ). m + n) (length-take-le g line (omega arith)) in
-      rw (k, take-all gatherSize (take g line ++ part) (omega arith)) (front-over n part (omega arith) refl (rw k at is))
+      let all : length (take g line ++ part) ≡ g + length part =
+      length-append (take g line) part ∙ ap (λ (m : ℕ). m + length part) (length-take-le g line (omega arith)) in
+      rw (take-all gatherSize (take g line ++ part) (omega arith)) (front-put part (omega arith) is)
 
-  pub gather-room : gatherSize - g < length part → g ≤ gatherSize → length (take (gatherSize - g) part) ≤ length (take (length line - g) (drop g line))
-  gather-room l h =
-      let cut = length-take-le (gatherSize - g) part (omega arith) in
-      let lent = length-take-le (length line - g) (drop g line) (simp length-drop (omega arith)) in
-      omega arith
+  pub gather-room : gatherSize - g < length part → g ≤ gatherSize → g + length (take (gatherSize - g) part) ≤ length line
+  gather-room l h = let cut = length-take-le (gatherSize - g) part (omega arith) in omega arith
 
-  pub gather-over : {ys : List ℕ} → gatherSize - g < length part → g ≤ gatherSize
-      → ys ≡ put (take (length line - g) (drop g line)) 0 (take (gatherSize - g) part)
-      → Front gatherSize gatherSize (take g line ++ (ys ++ drop (length line - g) (drop g line))) (take gatherSize (take g line ++ part))
+  pub gather-over : {ys : List ℕ} → gatherSize - g < length part → g ≤ gatherSize → ys ≡ put line g (take (gatherSize - g) part)
+      → Front gatherSize gatherSize ys (take gatherSize (take g line ++ part))
   gather-over {ys} l h is =
       let k = gatherSize - g in
-      let left : length line - g ≡ k = omega arith in
       let sum : g + k ≡ gatherSize = omega arith in
       let long : length (take g line) ≡ g = length-take-le g line (omega arith) in
+      let kept : length (take k part) ≡ k = length-take-le k part (omega arith) in
       let cut : take gatherSize (take g line ++ part) ≡ take g line ++ take k part =
       ap (λ (n : ℕ). take n (take g line ++ part)) (sym (ap (λ (m : ℕ). m + k) long ∙ sum)) ∙ take-append-add (take g line) part k in
-      let front = front-over k (take k part) (omega arith) (length-take-le k part (omega arith)) (rw left at is) in
-      rw (left, cut) (rw sum at front)
+      let front = front-put (take k part) (gather-room l h) is in
+      rw cut (rw (kept, sum) at front)
 
 -- answer
--- the output with an answer line lent and written behind what it held
+-- the output with an answer line lent and written after what it held
 abbrev pub behindHeld : Carried → ℕ → List ℕ → List ℕ → List ℕ
 behindHeld carried k output ys = take (carried .filled) output ++ (ys ++ drop k (drop (carried .filled) output))
 
@@ -369,7 +345,7 @@ module _ {piece : List ℕ} {i e : ℕ} (end : LineEnd piece i e) where
       ap (feed p) (stretch-append piece at i e l (end .low)) ∙ feed-append p (stretch piece at i) (stretch piece i e)
       ∙ feed-more (feed p (stretch piece at i)) (stretch piece i e) line-plain
 
-  -- and with the line feed behind it
+  -- and with the line feed after it
   feed-ended : (p : Progress) (at : ℕ) → at ≤ i → e < length piece
       → feed p (stretch piece at (e + 1)) ≡ ended (more (feed p (stretch piece at i)) (stretch piece i e))
   unfolding feed

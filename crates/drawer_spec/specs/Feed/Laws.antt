@@ -2,8 +2,7 @@
 --     feed-append      a piece, and then another
 --     more-more, more-none      characters of a line, in parts
 --     feed-more        a stretch without a line feed is characters of the line
---     feed-line        with a line feed behind it, it ends the line
--- Assumes nothing.
+--     feed-line        with a line feed after it, it ends the line
 use mathlib.Core.Path.{_≡_, refl, sym, ap, _∙_}
 use Prim.Native.Nat.{ℕ, suc, _<_}
 use native.Mathlib.Omega.{arith}
@@ -39,7 +38,7 @@ feed-more p [] h = sym (more-none p)
 feed-more p (c ∷ cs) h =
     rw (ne-eqb c 10 (h 0 (omega arith))) (feed-more (more p (c ∷ [])) cs (λ i l. h (suc i) (omega arith)) ∙ more-more p (c ∷ []) cs)
 
--- and one behind which the line ends
+-- and one after which the line ends
 pub feed-line : (p : Progress) (cs rest : List ℕ) → Plain cs → feed p (cs ++ (10 ∷ rest)) ≡ feed (ended (more p cs)) rest
 unfolding feed fed
 feed-line p cs rest h = feed-append p cs (10 ∷ rest) ∙ ap (λ (q : Progress). feed q (10 ∷ rest)) (feed-more p cs h)

@@ -5,7 +5,6 @@
 --     index-fits, index-kept, index-refused           02
 --     key-whole, get-value, get-found, get-absent, get-refused    03
 --     sheet-fits, sheet-listed, sheet-refused         04
--- Assumes nothing.
 use mathlib.Core.Path.{_≡_, refl, sym, ap, ap₂, _∙_, subst}
 use Prim.Native.Nat.{ℕ, _+_, _-_, _*_, _/_, _%_, _≤_, _<_}
 use native.Mathlib.Nat.{zero-add, div-div-eq-div-mul, div-add-mod'}
@@ -26,18 +25,18 @@ use Rattle.theory.specs.Records.{Record}
 use Rattle.theory.specs.Tests.{split, never}
 use Rattle.tray.specs.declared.TrayAnswer.{TrayAnswer}
 use Rattle.tray.specs.declared.TrayAnswer.the-variants.{Records, Refused as TrayRefused}
-use Rattle.tray.specs.Check.{checkTray}
+use Rattle.tray.specs.Check.{checkTrayAnswer}
 use Rattle.tray.specs.Meaning.{runsOf}
 use Rattle.build_spec.specs.declared.BuildAnswer.{BuildAnswer}
 use Rattle.build_spec.specs.declared.BuildAnswer.the-variants.{Written, Refused as BuildRefused}
-use Rattle.build_spec.specs.Build.{build, indexBytes, leaves}
+use Rattle.build_spec.specs.Build.{buildAnswer, indexBytes, buildLeaves}
 use Rattle.build_spec.specs.Build.Answers.{build-written, leaves-written}
-use Rattle.walk.specs.declared.Gets.{Gets}
-use Rattle.walk.specs.declared.GetAnswer.{GetAnswer}
-use Rattle.walk.specs.declared.GetAnswer.the-variants.{Found, Absent, Refused as GetRefused}
+use Rattle.answers.specs.declared.ValueAnswer.{ValueAnswer}
+use Rattle.answers.specs.declared.GetAnswer.{GetAnswer}
+use Rattle.answers.specs.declared.GetAnswer.the-variants.{Found, Absent, Refused as GetRefused}
 use Rattle.walk.specs.Walk.{Walked, stayed, ended, lost}
-use Rattle.walk.specs.Answers.{getAnswer, getFramed, gotTold, refusedGet}
-use Rattle.walk.specs.Answers.Hands.{in-frames}
+use Rattle.answers.specs.Get.{getAnswer, getFramed, gotTold, refusedGet}
+use Rattle.answers.specs.Seek.Hands.{in-frames}
 use Rattle.walk.specs.Reads.{Got, value, absent, get-lost, get, sheet}
 use Rattle.walk.specs.Reads.Page.{listing, length-listing}
 use Rattle.answers.specs.declared.SheetAnswer.{SheetAnswer}
@@ -48,7 +47,7 @@ use Rattle.hex.specs.Hex.Laws.{length-hexOf, hexOf-append}
 use Rattle.drawer_spec.specs.Line.{roomSize, answer, refusal, badAnswer, afterTray, afterBuild, afterGet, afterSheet, answerLine}
 use Rattle.drawer_spec.specs.Line.Front.{traySize, lineSize, Front, Holds, getSays, sheetSays}
 
--- a number's 4 lowest bytes, as the code reckons them
+-- a number's 4 lowest bytes, as the code computes them
 low-bytes : (n : ℕ) → bytesOf 4 (n % 0x100000000) ≡ bytesOf 4 n
 unfolding bytesOf
 low-bytes n = sym (bytesOf-add 0 4 (n / 0x100000000) (n % 0x100000000) (omega arith)) ∙ ap (bytesOf 4) (div-add-mod' n 0x100000000)
@@ -62,7 +61,7 @@ pub head-is : (code number figure : ℕ) {f : ℕ} → f ≡ figure % 0x10000000
 head-is code number figure {f} e =
     ap (λ (l : List ℕ). code ∷ number ∷ l) (sym (four-bytes f (omega arith)) ∙ ap (bytesOf 4) e ∙ low-bytes figure)
 
--- digits, and a line feed behind them
+-- digits, and a line feed after them
 line-end : (bytes out : List ℕ) {out₁ : List ℕ} {n : ℕ} → length out ≡ lineSize → n ≡ 2 * length bytes → n < lineSize
     → out₁ ≡ put out 0 (hexOf bytes) → Front (n + 1) lineSize (set out₁ n 10) (answerLine bytes)
 unfolding answerLine
@@ -129,38 +128,38 @@ front-put room buffer bytes e l is =
     }
 
 -- 01
-module _ (bytes tray : List ℕ) {a : TrayAnswer} (room : length tray ≡ traySize) (is : a ≡ checkTray bytes) where
+module _ (bytes tray : List ℕ) {a : TrayAnswer} (room : length tray ≡ traySize) (is : a ≡ checkTrayAnswer bytes) where
   abbrev Taken : ℕ → ℕ → List ℕ → List ℕ → Type 0
   Taken k n tray₁ out =
-      Holds (record { kept = k; length = n }) traySize tray₁ out (afterTray bytes (checkTray bytes) .tray) (afterTray bytes (checkTray bytes) .says)
+      Holds (record { kept = k; length = n }) traySize tray₁ out (afterTray bytes (checkTrayAnswer bytes) .tray) (afterTray bytes (checkTrayAnswer bytes) .says)
 
   pub tray-kept : {tray₁ out : List ℕ} {k n : ℕ} → length bytes ≤ traySize → a ≡ Records k → tray₁ ≡ put tray 0 bytes
       → Front n lineSize out (answerLine (129 ∷ 0 ∷ bytesOf 4 k)) → Taken (length bytes) n tray₁ out
   unfolding afterTray
   tray-kept {k = k} l e p line =
-      let answered : checkTray bytes ≡ Records k = sym is ∙ e in
+      let answered : checkTrayAnswer bytes ≡ Records k = sym is ∙ e in
       rw answered (record { kept = front-put traySize tray bytes room l p; told = rw (answer-short 1 0 k) at line })
 
   pub tray-refused : {r : Refusal} {out : List ℕ} {n : ℕ} → a ≡ TrayRefused r
       → Front n lineSize out (answerLine (129 ∷ (verdictOf r .number) ∷ bytesOf 4 (verdictOf r .figure))) → Taken 0 n tray out
   unfolding afterTray refusal
   tray-refused {r} e line =
-      let answered : checkTray bytes ≡ TrayRefused r = sym is ∙ e in
+      let answered : checkTrayAnswer bytes ≡ TrayRefused r = sym is ∙ e in
       rw answered (record { kept = front-none traySize tray room; told = rw (answer-short 1 (verdictOf r .number) (verdictOf r .figure)) at line })
 
 -- 02
 module _ (t : List ℕ) (d : ℕ) (index : List ℕ) {index₁ : List ℕ} {a : BuildAnswer} (room : length index ≡ roomSize)
-    (is : a ≡ build t d (length index)) (left : index₁ ≡ leaves t d index a) where
+    (is : a ≡ buildAnswer t d (length index)) (left : index₁ ≡ buildLeaves t d index a) where
   abbrev Built : ℕ → ℕ → List ℕ → Type 0
   Built k n out =
-      Holds (record { kept = k; length = n }) roomSize index₁ out (afterBuild t d (build t d roomSize) .index) (afterBuild t d (build t d roomSize) .says)
+      Holds (record { kept = k; length = n }) roomSize index₁ out (afterBuild t d (buildAnswer t d roomSize) .index) (afterBuild t d (buildAnswer t d roomSize) .says)
 
   -- the index that was written
   pub index-front : {k : ℕ} → a ≡ Written k → Front k roomSize index₁ (indexBytes d (runsOf t))
   index-front {k} e =
-      let written : build t d (length index) ≡ Written k = sym is ∙ e in
+      let written : buildAnswer t d (length index) ≡ Written k = sym is ∙ e in
       let stands = leaves-written t d index k written in
-      let same : index₁ ≡ leaves t d index (build t d (length index)) = left ∙ ap (leaves t d index) is in
+      let same : index₁ ≡ buildLeaves t d index (buildAnswer t d (length index)) = left ∙ ap (buildLeaves t d index) is in
       record {
         room-is = ap length same ∙ stands .long ∙ room;
         fits = omega (arith, build-written t d (length index) k .0 written .1);
@@ -171,15 +170,15 @@ module _ (t : List ℕ) (d : ℕ) (index : List ℕ) {index₁ : List ℕ} {a : 
   unfolding afterBuild answer
   index-kept {k} e line =
       let front = index-front e in
-      let answered : build t d roomSize ≡ Written k = ap (build t d) (sym room) ∙ sym is ∙ e in
+      let answered : buildAnswer t d roomSize ≡ Written k = ap (buildAnswer t d) (sym room) ∙ sym is ∙ e in
       rw answered (record { kept = front; told = rw (front .is) at line })
 
   pub index-refused : {r : Refusal} {n : ℕ} {out : List ℕ} → a ≡ BuildRefused r
       → Front n lineSize out (answerLine (130 ∷ (verdictOf r .number) ∷ bytesOf 4 (verdictOf r .figure))) → Built 0 n out
-  unfolding afterBuild refusal leaves
+  unfolding afterBuild refusal buildLeaves
   index-refused {r} e line =
-      let same : index₁ ≡ index = left ∙ ap (leaves t d index) e in
-      let answered : build t d roomSize ≡ BuildRefused r = ap (build t d) (sym room) ∙ sym is ∙ e in
+      let same : index₁ ≡ index = left ∙ ap (buildLeaves t d index) e in
+      let answered : buildAnswer t d roomSize ≡ BuildRefused r = ap (buildAnswer t d) (sym room) ∙ sym is ∙ e in
       rw answered (record { kept = front-none roomSize index₁ (ap length same ∙ room); told = rw (answer-short 2 (verdictOf r .number) (verdictOf r .figure)) at line })
 
 -- 03
@@ -200,23 +199,23 @@ key-whole (a ∷ b ∷ c ∷ d ∷ e ∷ f ∷ g ∷ h ∷ i ∷ rest) l = absur
 -- a value has 16 bytes
 pub value-length : (t x key : List ℕ) → length (getAnswer t x key .value) ≡ 16
 unfolding getAnswer getFramed gotTold
-value-length t x key = in-frames (λ (g : Gets). length (g .value) ≡ 16) refusedGet t x _ (λ r. refl) (λ f i. told (get t x _))
+value-length t x key = in-frames (λ (g : ValueAnswer). length (g .value) ≡ 16) refusedGet t x _ (λ r. refl) (λ f i. told (get t x _))
   where
     told : (g : Got) → length (gotTold g .value) ≡ 16
     told (value v) = length-bytesOf 16 v
     told absent = refl
     told (get-lost g s) = refl
 
-module _ (t x key : List ℕ) {k : List ℕ} {g : Gets} (same : k ≡ key) (is : g ≡ getAnswer t x k) where
+module _ (t x key : List ℕ) {k : List ℕ} {g : ValueAnswer} (same : k ≡ key) (is : g ≡ getAnswer t x k) where
   looked : g ≡ getAnswer t x key
   looked = is ∙ ap (getAnswer t x) same
 
   pub got-length : length (g .value) ≡ 16
-  got-length = ap (λ (a : Gets). length (a .value)) is ∙ value-length t x k
+  got-length = ap (λ (a : ValueAnswer). length (a .value)) is ∙ value-length t x k
 
   says-is : {a : GetAnswer} → g .answer ≡ a → afterGet a (g .value) ≡ getSays t x key
   unfolding getSays
-  says-is e = ap (λ (a : GetAnswer). afterGet a (g .value)) (sym e) ∙ ap (λ (g : Gets). afterGet (g .answer) (g .value)) looked
+  says-is e = ap (λ (a : GetAnswer). afterGet a (g .value)) (sym e) ∙ ap (λ (g : ValueAnswer). afterGet (g .answer) (g .value)) looked
 
   pub get-found : {n : ℕ} {out : List ℕ} → g .answer ≡ Found → Front n lineSize out (answerLine (131 ∷ 0 ∷ (bytesOf 4 1 ++ g .value)))
       → Front n lineSize out (answerLine (getSays t x key))

@@ -1,9 +1,9 @@
--- What the code promises of its buffers: the bytes that count stand at the front, and how many they are. Assumes nothing.
+-- What the code promises of its buffers: the bytes that count stand at the front, and how many they are.
 use Prim.Native.Nat.{ℕ, _≤_}
 use mathlib.Core.Path.{_≡_}
 use mathlib.Core.List.{List}
 use lib.ListN.{length, take}
-use Rattle.walk.specs.Answers.{getAnswer}
+use Rattle.answers.specs.Get.{getAnswer}
 use Rattle.walk.specs.Reads.{sheet}
 use Rattle.walk.specs.Reads.Page.{listing}
 use Rattle.answers.specs.Sheet.{recordsOf, sheetAnswer}

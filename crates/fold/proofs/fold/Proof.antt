@@ -1,4 +1,4 @@
--- `fold::fold` meets its contract: the tests that led to each answer are those of the definition, in its order. Assumes nothing.
+-- `fold::fold` meets its contract: the tests that led to each answer are those of the definition, in its order.
 use mathlib.Core.Logic.{⊎-elim}
 use Rattle.fold.specs.Answers.{answer-frame, answer-low, answer-high, answer-refused, answer-sound, folding-is, leaves-same}
 use mathlib.Core.Path.{sym, _∙_}

@@ -1,4 +1,4 @@
--- `fold::fold_one` meets its contract: the fold of one run is the tray. Assumes nothing.
+-- `fold::fold_one` meets its contract: the fold of one run is the tray.
 use Rattle.fold.specs.Answers.{answer-fits, answer-short, leaves-tray, leaves-same, one-run}
 use Rattle.number.proofs.Known.{bytes-known}
 use Rattle.tray.specs.Meaning.{runsOf}

@@ -1,4 +1,4 @@
--- `fold::fold_runs` meets its contract: the length of the merge decides on 12, and the size of the folded tray on 7. Assumes nothing.
+-- `fold::fold_runs` meets its contract: the length of the merge decides on 12, and the size of the folded tray on 7.
 use Rattle.fold.specs.Answers.{answer-long, answer-fits, answer-short, leaves-tray, leaves-same, noted-folded}
 use Rattle.tray.specs.Meaning.{runsOf}
 use native.Mathlib.Omega.{arith}

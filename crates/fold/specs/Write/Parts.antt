@@ -2,7 +2,6 @@
 --     counts-part, runs-part     the counts, and the runs, from one run up to another stand in the tray
 --     fold-parts                 the folded tray: a head of header and counts, and a body of runs
 --     size-parts                 how long it is
--- Assumes nothing.
 use mathlib.Core.Path.{_≡_, refl, sym, ap, ap₂, _∙_}
 use Prim.Native.Nat.{ℕ, suc, _+_, _-_, _*_, _≤_, _<_}
 use native.Mathlib.Nat.{zero-add}

@@ -1,7 +1,6 @@
 -- The folded tray as the code writes it: each law is a way out of a function.
 --     head-put, body-put, tray-put     the head, the body, and the whole tray
 --     Laid, laid-parts                 where its parts stand, by the frame, and how long it is
--- Assumes nothing.
 use mathlib.Core.Path.{_≡_, refl, sym, ap, ap₂, _∙_}
 use Prim.Native.Nat.{ℕ, suc, _+_, _-_, _*_, _≤_, _<_}
 use native.Mathlib.Omega.{arith}

@@ -1,21 +1,18 @@
 -- What the code that writes needs: each law is a way out of a function, or a turn of its loop.
---     copying-none, copying-more, copying-end      bytes copied, one by one
 --     record-put                                   a record copied
 --     Putting, putting-none, -more, -end           records copied, one by one
---     put-next                                     one write right behind another
+--     put-next                                     one write right after another
 --     between-fits, kept-number                    the room of a part, and the number of the records
--- Assumes nothing.
 use mathlib.Core.Path.{_≡_, refl, sym, ap, ap₂, _∙_, subst}
 use Prim.Native.Nat.{ℕ, suc, _+_, _-_, _*_, _≤_, _<_}
 use native.Mathlib.Nat.{add-zero}
-use native.Mathlib.Numerals.{add-one}
 use native.Mathlib.Omega.{arith}
 use mathlib.Core.List.{List, [], _∷_, _++_, map, append-assoc, Memᴰ·append-right}
-use lib.ListN.{length, getD, take, drop, set, length-set, length-append, length-map, drop-of-length-le, take-append-drop}
-use lib.Seq.{drop-cons, length-take-le}
+use lib.ListN.{length, getD, take, drop, set, length-append, length-map, drop-of-length-le, take-append-drop}
+use lib.Seq.{length-take-le}
 use Rattle.number.specs.Big.{be, bytesOf, put, Bytes}
 use Rattle.number.specs.Big.Laws.{be-add, be-bound, bytesOf-add, length-bytesOf}
-use Rattle.number.specs.Big.Writes.{put-put, put-sets, length-put}
+use Rattle.number.specs.Big.Writes.{put-put, length-put, put-nil, put-cons}
 use Rattle.theory.specs.Lists.{here}
 use Rattle.theory.specs.Rising.{Mem, All}
 use Rattle.tray.specs.Run.{recordFrom}
@@ -24,39 +21,6 @@ use Rattle.tray.specs.Meaning.Read.{length-recordBytes}
 use Rattle.fold_merge.specs.Folding.Draws.{group-next}
 use Rattle.fold.specs.Write.{between}
 use Rattle.fold.specs.Write.Parts.{length-between}
-
--- nothing written, and one byte more
-put-nil : (s : List ℕ) (p : ℕ) → put s p [] ≡ s
-unfolding put
-put-nil s p = rw add-zero (take-append-drop p s)
-
-put-cons : (s : List ℕ) (p v : ℕ) (ys : List ℕ) → p < length s → put (set s p v) (suc p) ys ≡ put s p (v ∷ ys)
-put-cons s p v ys l =
-    let one : set s p v ≡ put s p (v ∷ []) = put-sets s p (v ∷ []) (omega arith) in
-    rw (one, ← add-one p) (put-put s p (v ∷ []) ys (omega arith))
-
--- the bytes from place i of a part on have still to be copied
-pub record Copying (part : List ℕ) (at : ℕ) (out₀ out : List ℕ) (i : ℕ) : Type 0 where
-  pub within : i ≤ length part
-  pub room : length out ≡ length out₀
-  pub same : put out (at + i) (drop i part) ≡ put out₀ at part
-
-pub copying-none : (part : List ℕ) (at : ℕ) (out : List ℕ) → Copying part at out out 0
-copying-none part at out = record { within = omega arith; room = refl; same = rw add-zero }
-
-pub copying-more : {part : List ℕ} {at : ℕ} {out₀ out : List ℕ} {i : ℕ} → Copying part at out₀ out i → i < length part → at + i < length out
-    → Copying part at out₀ (set out (at + i) (getD part i 0)) (i + 1)
-copying-more {part} {at} {out₀} {out} {i} w l h =
-    let next : at + (i + 1) ≡ suc (at + i) = omega arith in
-    record {
-      within = omega arith;
-      room = simp length-set (w .room);
-      same = rw (next, add-one) (put-cons out (at + i) (getD part i 0) (drop (suc i) part) h ∙ (rw (drop-cons part i 0 l) at (w .same)));
-    }
-
-pub copying-end : {part : List ℕ} {at : ℕ} {out₀ out : List ℕ} {i : ℕ} → Copying part at out₀ out i → length part ≤ i → out ≡ put out₀ at part
-copying-end {part} {at} {out₀} {out} {i} w l =
-    sym (put-nil out (at + i)) ∙ ap (put out (at + i)) (sym (drop-of-length-le part {i = i} l)) ∙ w .same
 
 -- a value in two parts
 value-parts : (t : List ℕ) (p q : ℕ) → Bytes t → q ≡ p + 8 → bytesOf 16 (be 16 t p) ≡ bytesOf 8 (be 8 t p) ++ bytesOf 8 (be 8 t q)
@@ -84,7 +48,7 @@ record-put t from out at {out₁} {out₂} {out₃} {key} {kind} {high} {low} b 
     let value : bytesOf 16 (be 16 t (from + 9)) ≡ bytesOf 8 (be 8 t (from + 9)) ++ bytesOf 8 (be 8 t (from + 17)) = value-parts t (from + 9) (from + 17) b (omega arith) in
     three ∙ ap (put out at) (append-assoc K (kind ∷ H) L) ∙ rw (k, n, h, w, value)
 
--- one write right behind another
+-- one write right after another
 pub put-next : (out xs ys : List ℕ) (p : ℕ) {o o′ : List ℕ} {q : ℕ} → o ≡ put out p xs → p ≤ length out → q ≡ p + length xs → o′ ≡ put o q ys → o′ ≡ put out p (xs ++ ys)
 put-next out xs ys p e l m f =
     f ∙ ap₂ (λ (s : List ℕ) (j : ℕ). put s j ys) e m ∙ put-put out p xs ys l

@@ -1,5 +1,5 @@
 -- `fold_merge::keep_all` meets its contract. Invariant: what has been noted and the merge of what is left from the next key on are the merge from
--- the start. Measure: the records left. Assumes nothing.
+-- the start. Measure: the records left.
 use Rattle.fold_merge.specs.Folding.Start.{merge-short}
 use Rattle.fold_merge.specs.Folding.Keeping.{Merging, merging-none, merging-more, merging-less, merging-end, merging-low}
 use Rattle.fold_merge.specs.Folding.Bound.{next-to, none-to, ended-more}

@@ -1,5 +1,4 @@
 -- `fold_merge::merge_runs` meets its contract: with the runs outside a to b at their ends, the merge of what is left is the merge of these runs.
--- Assumes nothing.
 use Rattle.merge.specs.Heads.Laws.{padded-none}
 use Rattle.fold_merge.specs.Folding.Moves.{folding-reading, folding-merge, folding-ended, folding-noted}
 use mathlib.Core.Path.{refl}
@@ -11,8 +10,8 @@ use Rattle.fold_merge.proofs.merge_runs.Tie as tie
 slice-aggregate-skip-runs : tie.Need-slice-aggregate-skip-runs
 slice-aggregate-skip-runs c = search needs
 
-wide-size-requires : tie.Need-wide-size-requires
-wide-size-requires c κs = search needs
+usize-of-u8-requires : tie.Need-usize-of-u8-requires
+usize-of-u8-requires c κs = search needs
 
 slice-aggregate-skip-runs-2 : tie.Need-slice-aggregate-skip-runs-2
 slice-aggregate-skip-runs-2 c = search needs
@@ -23,14 +22,14 @@ skip-runs-requires c κs = search needs
 slice-aggregate-skip-runs-3 : tie.Need-slice-aggregate-skip-runs-3
 slice-aggregate-skip-runs-3 c = search needs
 
-wide-size-requires-2 : tie.Need-wide-size-requires-2
-wide-size-requires-2 c κs = search needs
+usize-of-u8-requires-2 : tie.Need-usize-of-u8-requires-2
+usize-of-u8-requires-2 c κs = search needs
 
 add-skip-runs : tie.Need-add-skip-runs
 add-skip-runs c = search needs
 
-wide-size-requires-3 : tie.Need-wide-size-requires-3
-wide-size-requires-3 c κs = search needs
+usize-of-u8-requires-3 : tie.Need-usize-of-u8-requires-3
+usize-of-u8-requires-3 c κs = search needs
 
 slice-aggregate-skip-runs-4 : tie.Need-slice-aggregate-skip-runs-4
 slice-aggregate-skip-runs-4 c = search needs
@@ -100,10 +99,10 @@ keep-all-requires c κs =
     let fill-heads = back .fill-heads in
     let back = back .before .before .before .before .before .before .before .before .before in
     let skip-runs2 = back .skip-runs2 in
-    let wide-size3 = back .before .before .wide-size3 in
-    let wide-size2 = back .before .before .before .wide-size2 in
+    let usize-of-u83 = back .before .before .usize-of-u83 in
+    let usize-of-u82 = back .before .before .before .usize-of-u82 in
     let pre = back .before .before .before .before .before .before .before .before .before .before .before .before .before .before .pre in
-    ((pre .0 .sound, folding-ended (pre .0) (wide-size2 .ensures) (wide-size3 .ensures) (skip-runs2 .ensures), pre .1), fill-heads .ensures)
+    ((pre .0 .sound, folding-ended (pre .0) (usize-of-u82 .ensures) (usize-of-u83 .ensures) (skip-runs2 .ensures), pre .1), fill-heads .ensures)
 
 same-length : tie.Need-same-length
 same-length c = search needs
@@ -117,15 +116,15 @@ returns c =
     .before .before .before .before .before in
     let skip-runs2 = back .skip-runs2 in
     let back = back .before .before in
-    let wide-size3 = back .wide-size3 in
-    let wide-size2 = back .before .wide-size2 in
+    let usize-of-u83 = back .usize-of-u83 in
+    let usize-of-u82 = back .before .usize-of-u82 in
     let back = back .before .before .before .before in
     let skip-runs = back .skip-runs in
-    let wide-size = back .before .before .wide-size in
+    let usize-of-u8 = back .before .before .usize-of-u8 in
     let pre = back .before .before .before .before .before .before .before .before .pre in
     folding-noted
     (pre .0)
-    (folding-merge (pre .0) (wide-size .ensures) (wide-size2 .ensures) (wide-size3 .ensures) (skip-runs .ensures) (skip-runs2 .ensures))
+    (folding-merge (pre .0) (usize-of-u8 .ensures) (usize-of-u82 .ensures) (usize-of-u83 .ensures) (skip-runs .ensures) (skip-runs2 .ensures))
     (keep-all .ensures)
 
 pub merge-runs-spec : {M : Type 1} → statement M
@@ -133,13 +132,13 @@ merge-runs-spec =
     tie.close
     (tie.spec
     slice-aggregate-skip-runs
-    wide-size-requires
+    usize-of-u8-requires
     slice-aggregate-skip-runs-2
     skip-runs-requires
     slice-aggregate-skip-runs-3
-    wide-size-requires-2
+    usize-of-u8-requires-2
     add-skip-runs
-    wide-size-requires-3
+    usize-of-u8-requires-3
     slice-aggregate-skip-runs-4
     skip-runs-requires-2
     slice-aggregate-fill-heads

@@ -1,12 +1,12 @@
--- `fold_merge::take_next` meets its contract: the record is noted before the run moves on. Assumes nothing.
+-- `fold_merge::take_next` meets its contract: the record is noted before the run moves on.
 use Rattle.fold_merge.specs.Folding.Keeping.{noted-at, stands-at}
 use native.Mathlib.Omega.{arith}
 use borrow.Author.Needs.{needs}
 use Rattle.fold_merge.proofs.take_next.Statement.{statement}
 use Rattle.fold_merge.proofs.take_next.Tie as tie
 
-wide-size-requires : tie.Need-wide-size-requires
-wide-size-requires c κs = search needs
+usize-of-u8-requires : tie.Need-usize-of-u8-requires
+usize-of-u8-requires c κs = search needs
 
 mul-note : tie.Need-mul-note
 mul-note c = search needs
@@ -14,32 +14,32 @@ mul-note c = search needs
 shared-slice-read-note : tie.Need-shared-slice-read-note
 shared-slice-read-note c = search needs
 
-mul-size16 : tie.Need-mul-size16
-mul-size16 c = search needs
+mul-usize-of-u16 : tie.Need-mul-usize-of-u16
+mul-usize-of-u16 c = search needs
 
-slice-read-size16 : tie.Need-slice-read-size16
-slice-read-size16 c = search needs
+slice-read-usize-of-u16 : tie.Need-slice-read-usize-of-u16
+slice-read-usize-of-u16 c = search needs
 
-size16-requires : tie.Need-size16-requires
-size16-requires c κs = search needs
+usize-of-u16-requires : tie.Need-usize-of-u16-requires
+usize-of-u16-requires c κs = search needs
 
 mul-note-2 : tie.Need-mul-note-2
 mul-note-2 c =
     let back = c .before .before .before .before in
-    let wide-size = back .wide-size in
+    let usize-of-u8 = back .usize-of-u8 in
     let back = back .before .before .before .before .before .before .before .before .before .before in
     let pre = back .pre in
     let heading = back .pre .0 in
-    let at = stands-at (heading .caching .reading) (pre .1 .0) (wide-size .ensures) (pre .1 .1) in omega (arith, at .low, c .size16 .ensures)
+    let at = stands-at (heading .caching .reading) (pre .1 .0) (usize-of-u8 .ensures) (pre .1 .1) in omega (arith, at .low, c .usize-of-u16 .ensures)
 
 add-note : tie.Need-add-note
 add-note c =
     let back = c .before .before .before .before in
-    let wide-size = back .wide-size in
+    let usize-of-u8 = back .usize-of-u8 in
     let back = back .before .before .before .before .before .before .before .before .before .before in
     let pre = back .pre in
     let heading = back .pre .0 in
-    let at = stands-at (heading .caching .reading) (pre .1 .0) (wide-size .ensures) (pre .1 .1) in omega (arith, at .low, c .size16 .ensures)
+    let at = stands-at (heading .caching .reading) (pre .1 .0) (usize-of-u8 .ensures) (pre .1 .1) in omega (arith, at .low, c .usize-of-u16 .ensures)
 
 note-requires : tie.Need-note-requires
 note-requires c κs = search needs
@@ -71,25 +71,25 @@ returns c =
     let advance = back .advance in
     let back = back .before .before .before .before .before .before .before .before in
     let note = back .note in
-    let size16 = back .before .size16 in
+    let usize-of-u16 = back .before .usize-of-u16 in
     let back = back .before .before .before .before .before in
-    let wide-size = back .wide-size in
+    let usize-of-u8 = back .usize-of-u8 in
     let back = back .before .before .before .before .before .before .before .before .before .before in
     let pre = back .pre in
     let heading = back .pre .0 in
-    let at = stands-at (heading .caching .reading) (pre .1 .0) (wide-size .ensures) (pre .1 .1) in
-    (noted-at _ _ (omega (arith, at .is, size16 .ensures)) (note .ensures), (advance .ensures .0, advance .ensures .1))
+    let at = stands-at (heading .caching .reading) (pre .1 .0) (usize-of-u8 .ensures) (pre .1 .1) in
+    (noted-at _ _ (omega (arith, at .is, usize-of-u16 .ensures)) (note .ensures), (advance .ensures .0, advance .ensures .1))
 
 pub take-next-spec : {M : Type 1} → statement M
 take-next-spec =
     tie.close
     (tie.spec
-    wide-size-requires
+    usize-of-u8-requires
     mul-note
     shared-slice-read-note
-    mul-size16
-    slice-read-size16
-    size16-requires
+    mul-usize-of-u16
+    slice-read-usize-of-u16
+    usize-of-u16-requires
     mul-note-2
     add-note
     note-requires

@@ -1,7 +1,6 @@
 -- Where the runs from h on have been read to their ends, the first h tell which run of all comes next.
 --     next-to, none-to     the run that is chosen comes next, and where none is, none does
 --     ended-more           the runs from h on stay at their ends
--- Assumes nothing.
 use mathlib.Core.Path.{_≡_, refl, sym, ap, _∙_}
 use Prim.Native.Nat.{ℕ, _+_, _≤_, _<_}
 use native.Mathlib.Omega.{arith}

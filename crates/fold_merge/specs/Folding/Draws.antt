@@ -1,6 +1,5 @@
 -- Numbers drawn one by one from the front of a list, as the writer of the noted records goes through them.
 --     group-next     the next of the first n
--- Assumes nothing.
 use mathlib.Core.Path.{_≡_}
 use Prim.Native.Nat.{ℕ, _+_, _≤_, _<_}
 use native.Mathlib.Numerals.{add-one}

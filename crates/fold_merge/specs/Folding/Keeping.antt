@@ -3,7 +3,6 @@
 --     fresh-first, fresh-new, fresh-old             whether its key is new
 --     start-low, stands-at, record-in               where it stands in the tray
 --     Merging, merging-none, -more, -less, -end, -low     the records so far
--- Assumes nothing.
 use mathlib.Core.Path.{_≡_, refl, sym, ap, _∙_, subst}
 use mathlib.Core.Logic.{⊎-elim}
 use Prim.Native.Nat.{ℕ, zero, suc, _+_, _-_, _*_, _≤_, _<_}
@@ -108,7 +107,7 @@ record-in t r p l =
 take-mem : {x : ℕ} (n : ℕ) (xs : List ℕ) → Mem x (take n xs) → Mem x xs
 take-mem {x} n xs m = subst (Mem x) (take-append-drop n xs) (Memᴰ·append-left (drop n xs) m)
 
--- a number noted behind the others
+-- a number noted after the others
 noted-are : (kept done : List ℕ) {n : ℕ} (at : ℕ) → n ≡ length done → length kept ≡ 4096 → take n kept ≡ take 4096 done
     → take (n + 1) (noted kept n at) ≡ take 4096 (done ++ (at ∷ []))
 noted-are kept done {n} at e k are =

@@ -7,7 +7,6 @@
 --     merge-all                  from key 0 on all is left
 --     next-low                   what is left is not lower than the record that was taken
 --     left-less                  a record taken is one less
--- Assumes nothing.
 use mathlib.Core.Path.{_≡_, refl, sym, ap, _∙_, subst}
 use Prim.Native.Nat.{ℕ, zero, suc, _+_, _^_, _≤_, _<_}
 use native.Mathlib.Numerals.{add-one}

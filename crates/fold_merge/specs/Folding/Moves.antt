@@ -1,7 +1,6 @@
 -- What the start of the merge needs: each law is a way out of a function, or a turn of its loop.
 --     skips-none, skips-more, skips-all             runs read to their ends
 --     folding-reading, folding-merge, folding-ended, folding-noted     what the merge starts from
--- Assumes nothing.
 use mathlib.Core.Path.{_≡_, refl, _∙_, subst, subst₂}
 use mathlib.Core.Logic.{⊎-elim}
 use Prim.Native.Nat.{ℕ, zero, suc, _+_, _≤_, _<_}
@@ -39,7 +38,7 @@ skips-more {counts} {places} {places′} {from} {i} w l k =
 pub skips-all : {counts places places′ : List ℕ} {from to i : ℕ} → Skips counts places from i places′ → i ≤ to → to ≤ i → Skips counts places from to places′
 skips-all {counts} {places} {places′} {from} {to} {i} w l k = subst (λ (j : ℕ). Skips counts places from j places′) {x = i} {y = to} (omega arith) w
 
--- the runs before a and behind b
+-- the runs before a and after b
 begins : {t counts places₀ places₁ places : List ℕ} {a b h : ℕ} → ((r : ℕ) → getD places₀ r 0 ≡ 0)
     → ((r : ℕ) → r < runCount t → getD counts r 0 ≡ countOf t r) → h ≡ runCount t → a ≤ b
     → Skips counts places₀ 0 a places₁ → Skips counts places₁ (b + 1) h places → Begins t places a b

@@ -2,7 +2,6 @@
 --     Begins, merge-begins       the places at the start
 --     listed-parts               the runs a to b of several
 --     merge-short                no merge of what is left has above 63 times 4,096 records
--- Assumes nothing.
 use mathlib.Core.Path.{_≡_, refl, sym, ap, _∙_}
 use mathlib.Core.Logic.{_⊎_, inl, inr}
 use Prim.Native.Nat.{ℕ, zero, suc, _+_, _-_, _*_, _≤_, _<_}

@@ -7,7 +7,6 @@
 --     given, turn-from           what a run gives up of the least key, and the step of that run
 --     firstOf, firstOf-is        the first of several that there is
 --     merged-nils                the merge of empty runs
--- Assumes nothing.
 use mathlib.Core.Path.{_≡_, refl, sym, ap, _∙_}
 use mathlib.Core.Logic.{⊎-elim}
 use Prim.Native.Nat.{ℕ, zero, suc, _+_, _≤_, _<_}
@@ -85,7 +84,7 @@ turn-from {m} {k} l (Rising.more {a = x} {xs} above r) low =
         let higher : Above k (x ∷ xs) = all-cons first (λ e i. let u : keyOf x < keyOf e = above e i in omega arith) in
         rw (ne-eqb (keyOf x) k d, from-all (suc k) (x ∷ xs) higher) (past higher)
 
--- what is inserted into a list that begins lower goes behind the first
+-- what is inserted into a list that begins lower goes after the first
 insertAll-behind : (xs : List Record) (y : Record) (ys : List Record) → Above (keyOf y) xs → insertAll keyOf xs (y ∷ ys) ≡ y ∷ insertAll keyOf xs ys
 unfolding insertAll insert
 insertAll-behind [] y ys a = refl

@@ -1,8 +1,7 @@
--- Fold in the table's words (document 01, "Refusals by number", in the order 1, 8, 3/2, 12, 7): each answer exactly when.
+-- Fold in the table's words (docs/RULES.md, "Refusals by number", in the order 1, 8, 3/2, 12, 7): each answer exactly when.
 --     When                       the table: what each answer asks of the tray, the bounds and the room
 --     fold-says                  fold gives an answer exactly when the table does
 --     fold-written, fold-refuses-1, -8, -3, -2, -12, -7     its lines
--- Assumes nothing.
 use mathlib.Core.Path.{_≡_, refl, ap, subst, _∙_}
 use mathlib.Core.Logic.{_↔_, _⊎_, inl, inr}
 use Prim.Native.Nat.{ℕ, _≤_, _<_}
@@ -17,7 +16,7 @@ use Rattle.tray.specs.declared.TrayAnswer.{TrayAnswer}
 use Rattle.tray.specs.declared.TrayAnswer.the-variants.{Records}
 use Rattle.tray.specs.Frame.{runCount, recordsBefore, framed, Framed}
 use Rattle.tray.specs.Frame.Laws.{framed-fits, fits-framed}
-use Rattle.tray.specs.Check.{checkTray, Sound, Says, refused-1, refused-2, refused-3, records}
+use Rattle.tray.specs.Check.{checkTrayAnswer, Sound, Says, refused-1, refused-2, refused-3, records}
 use Rattle.tray.specs.Check.Laws.{says}
 use Rattle.tray.specs.Check.Theorems.{WrongKeyAt, WrongKindAt, answers-records, refuses-2, refuses-3}
 use Rattle.tray.specs.Meaning.{runsOf}
@@ -66,7 +65,7 @@ module _ (t : List ℕ) (a b room : ℕ) where
       cases (leb a b) (λ e. inr (ltb-false _ _ (rw e at h))) (λ e. inl (leb-false _ _ e))
 
   -- past the tests 1 and 8,
-  past-bounds : Framed t → InBounds t a b → foldAnswer t a b room ≡ afterCheck a b (runsOf t) room (checkTray t)
+  past-bounds : Framed t → InBounds t a b → foldAnswer t a b room ≡ afterCheck a b (runsOf t) room (checkTrayAnswer t)
   unfolding foldAnswer
   past-bounds f h = rw (fits-framed t f, holds h)
 

@@ -1,4 +1,4 @@
--- Worked cases of fold on bytes: rows e, j and k of document 01's small trays, what is copied, and the answers in their order.
+-- Worked cases of fold on bytes: rows e, j and k of docs/RULES.md, "Small trays to prove", what is copied, and the answers in their order.
 -- The last byte of a value says which run it came from. Each case holds by computation.
 use mathlib.Core.Path.{_≡_, refl}
 use Prim.Native.Nat.{ℕ}
@@ -11,11 +11,11 @@ use Rattle.theory.specs.Listed.{listed}
 use Rattle.theory.specs.Merge.{hidden, over, merged, fold}
 use Rattle.tray.specs.Frame.{runCount, countOf, recordsBefore, startOf, runBytes, headerFits, countsFit, framed}
 use Rattle.tray.specs.Run.{recordFrom, kindWrong, keyWrong, judgeFrom}
-use Rattle.tray.specs.Check.{afterRun, checkRuns, checkTray}
+use Rattle.tray.specs.Check.{afterRun, checkRuns, checkTrayAnswer}
 use Rattle.tray.specs.Meaning.{runOf, runsOf, recordBytes, recordsBytes, countsBytes, runsBytes, trayBytes, total}
 use Rattle.fold_spec.specs.declared.FoldAnswer.{FoldAnswer}
 use Rattle.fold_spec.specs.declared.FoldAnswer.the-variants.{Written, Refused}
-use Rattle.fold_spec.specs.Fold.{foldedRun, foldedRuns, foldBytes, foldSize, boundsHold, afterCheck, foldAnswer, leaves}
+use Rattle.fold_spec.specs.Fold.{foldedRun, foldedRuns, foldBytes, foldSize, boundsHold, afterCheck, foldAnswer, foldLeaves}
 
 -- the bytes of a folded tray with all that they are computed by: to unfold it is to unfold them
 folded : ℕ → ℕ → List ℕ → List ℕ
@@ -24,7 +24,7 @@ folded a b t = foldBytes a b (runsOf t)
 
 -- and so fold's answer
 answer : List ℕ → ℕ → ℕ → ℕ → FoldAnswer
-unfolding folded foldAnswer afterCheck boundsHold foldSize foldedRun total checkTray checkRuns afterRun judgeFrom kindWrong keyWrong framed headerFits countsFit
+unfolding folded foldAnswer afterCheck boundsHold foldSize foldedRun total checkTrayAnswer checkRuns afterRun judgeFrom kindWrong keyWrong framed headerFits countsFit
 answer t a b room = foldAnswer t a b room
 
 -- a record of a small key, with its kind and the last byte of its value
@@ -66,13 +66,13 @@ same-run : foldBytes 1 1 (runsOf k) ≡ k
 unfolding folded
 same-run = refl
 
--- the answer is the bytes written; those behind them stay
+-- the answer is the bytes written; those after them stay
 exact-room : foldAnswer e 0 1 31 ≡ Written 31
 unfolding answer
 exact-room = refl
 
-bytes-behind : leaves e 0 1 (replicate 33 0xaa) (Written 31) ≡ eFolded ++ (0xaa ∷ 0xaa ∷ [])
-unfolding folded leaves put
+bytes-behind : foldLeaves e 0 1 (replicate 33 0xaa) (Written 31) ≡ eFolded ++ (0xaa ∷ 0xaa ∷ [])
+unfolding folded foldLeaves put
 bytes-behind = refl
 
 -- 7: one byte short

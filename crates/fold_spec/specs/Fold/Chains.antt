@@ -9,7 +9,6 @@
 --     only-length-stops          and given room, run length alone stops a call whose bounds hold
 --     reaches-one, whole-call    where it lets it, given room, folding everything at once reaches one run, by a chain of one call
 --     one-run                    so a chain to one run exists exactly when run length lets everything fold at once
--- Assumes nothing.
 use mathlib.Core.Path.{_≡_, refl, sym, ap, subst, _∙_}
 use mathlib.Core.Logic.{_↔_, _⊎_, inl, inr}
 use Prim.Native.Nat.{ℕ, zero, _-_, _≤_, _<_}
@@ -34,7 +33,7 @@ use Rattle.tray.specs.Meaning.{runsOf}
 use Rattle.tray.specs.Meaning.Laws.{length-runsOf, runs-good}
 use Rattle.tray.specs.Meaning.Back.{fits-runs, runsOf-one}
 use Rattle.fold_spec.specs.declared.FoldAnswer.the-variants.{Written, Refused}
-use Rattle.fold_spec.specs.Fold.{keyOf, foldedRun, foldedRuns, foldBytes, foldSize, foldAnswer, leaves, Calls, no-call, call}
+use Rattle.fold_spec.specs.Fold.{keyOf, foldedRun, foldedRuns, foldBytes, foldSize, foldAnswer, foldLeaves, Calls, no-call, call}
 use Rattle.fold_spec.specs.Fold.Laws.{InBounds, Foldable, keyRule, foldedRun-whole, fold-sound, fold-bytes, fold-means}
 use Rattle.fold_spec.specs.Fold.Answers.{fold-written, fold-refuses-12}
 use Rattle.fold_spec.specs.Fold.Leaves.{leaves-written}
@@ -56,7 +55,7 @@ pub record Gives (t : List ℕ) (a b : ℕ) (u : List ℕ) : Type 0 where
   pub means : runsOf u ≡ foldedRuns a b (runsOf t)
 
 pub call-gives : {t : List ℕ} {a b n : ℕ} (out : List ℕ) → Sound t → Bytes t → foldAnswer t a b (length out) ≡ Written n
-    → Gives t a b (take n (leaves t a b out (Written n)))
+    → Gives t a b (take n (foldLeaves t a b out (Written n)))
 call-gives {t} {a} {b} {n} out s bytes e =
     let w = fold-written t a b (length out) n .0 e in
     let f : Foldable t a b = record { sound = s; bytes = bytes; bounds = w .1; short = w .2 } in

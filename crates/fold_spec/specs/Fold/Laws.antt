@@ -1,4 +1,4 @@
--- Laws of what a fold writes, for a tray and bounds that no refusal but 7 meets (document 01, "Folding").
+-- Laws of what a fold writes, for a tray and bounds that no refusal but 7 meets (docs/RULES.md, "Folding").
 --     foldedRun-says             the folded run has, of each key in the runs a to b, the record of the lowest-numbered run
 --     foldedRun-rises            by rising key
 --     foldedRun-whole            all runs at once make the merge of all
@@ -8,7 +8,6 @@
 --     fold-fits, fold-sound, fold-bytes     the folded tray fits, is sound, and is bytes
 --     fold-means                 it means the folded runs
 --     fold-copies                a = b copies the tray
--- Assumes nothing.
 use mathlib.Core.Path.{_≡_, ap, subst}
 use mathlib.Core.Logic.{_↔_, ⊎-elim}
 use Prim.Native.Nat.{ℕ, suc, _-_, _≤_, _<_}

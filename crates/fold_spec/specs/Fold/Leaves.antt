@@ -1,8 +1,7 @@
--- What fold leaves in the output (document 01, "Folding": bytes past its length are untouched; "Refusals by number": output is untouched).
+-- What fold leaves in the output (docs/RULES.md, "Folding": bytes past its length are untouched; "Refusals by number": output is untouched).
 --     front-written              a list that is written whole at the front
---     leaves-written             the folded tray at the front, what was there behind it, and the same length
+--     leaves-written             the folded tray at the front, what was there after it, and the same length
 --     leaves-refused             what was there
--- Assumes nothing.
 use mathlib.Core.Path.{_≡_, refl}
 use Prim.Native.Nat.{ℕ, _+_, _≤_}
 use native.Mathlib.Omega.{arith}
@@ -14,7 +13,7 @@ use Rattle.number.specs.Big.{put}
 use Rattle.number.specs.Big.Writes.{length-put, take-put, drop-put}
 use Rattle.tray.specs.Meaning.{runsOf}
 use Rattle.fold_spec.specs.declared.FoldAnswer.the-variants.{Written, Refused}
-use Rattle.fold_spec.specs.Fold.{foldBytes, foldAnswer, leaves}
+use Rattle.fold_spec.specs.Fold.{foldBytes, foldAnswer, foldLeaves}
 use Rattle.fold_spec.specs.Fold.Laws.{length-foldBytes}
 use Rattle.fold_spec.specs.Fold.Answers.{fold-written}
 
@@ -35,13 +34,13 @@ front-written s ys n e h =
     }
 
 pub leaves-written : (t : List ℕ) (a b : ℕ) (out : List ℕ) (n : ℕ) → foldAnswer t a b (length out) ≡ Written n
-    → Front out (foldBytes a b (runsOf t)) (leaves t a b out (Written n)) n
-unfolding leaves
+    → Front out (foldBytes a b (runsOf t)) (foldLeaves t a b out (Written n)) n
+unfolding foldLeaves
 leaves-written t a b out n e =
     let w = fold-written t a b (length out) n .0 e in
     let size = length-foldBytes a b (runsOf t) in
     front-written out (foldBytes a b (runsOf t)) n (cc) (omega (arith, w .3, w .4))
 
-pub leaves-refused : (t : List ℕ) (a b : ℕ) (out : List ℕ) (r : Refusal) → leaves t a b out (Refused r) ≡ out
-unfolding leaves
+pub leaves-refused : (t : List ℕ) (a b : ℕ) (out : List ℕ) (r : Refusal) → foldLeaves t a b out (Refused r) ≡ out
+unfolding foldLeaves
 leaves-refused t a b out r = refl

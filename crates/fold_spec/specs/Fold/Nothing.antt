@@ -3,10 +3,9 @@
 --     without, withoutRun        the runs, and the tray, without one run
 --     Removed, without-run       the tray without one of its runs is a sound tray of the others
 --     AddsNothing                two neighbours folded leave the tray without one of them, and the same merge
---     empty-run                  an empty run, folded with the run behind it or before it
+--     empty-run                  an empty run, folded with the run after it or before it
 --     older-copy                 a run that is a copy of the one before it, folded with that one
 --     same-bytes                 runs of the same bytes are copies
--- Assumes nothing.
 use mathlib.Core.Path.{_≡_, sym, ap, subst, _∙_}
 use mathlib.Core.Logic.{⊎-elim}
 use Prim.Native.Nat.{ℕ, suc, _-_, _≤_, _<_}
@@ -151,7 +150,7 @@ module _ {t : List ℕ} (s : Sound t) (bytes : Bytes t) where
   good-at : {r : ℕ} → r < runCount t → GoodRun SoundRecord keyOf (runAt (runsOf t) r)
   good-at {r} l = run-good (runs-good s) r (inside l)
 
-  -- an empty run folded with the run behind it,
+  -- an empty run folded with the run after it,
   empty-newer : (a : ℕ) → suc a < runCount t → countOf t a ≡ 0 → AddsNothing t a a
   empty-newer a l e =
       let k : a < runCount t = omega arith in

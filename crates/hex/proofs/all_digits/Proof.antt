@@ -1,5 +1,4 @@
 -- `hex::all_digits` meets its contract. Invariant: the characters from place i on have still to be counted. Measure: these characters.
--- Assumes nothing.
 use Prim.Native.Nat.{_-_}
 use lib.ListN.{length, getD}
 use Rattle.hex.specs.Hex.Code.{Counting, counting-none, counting-more, counting-end, fault-low}

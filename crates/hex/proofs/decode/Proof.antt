@@ -1,4 +1,4 @@
--- `hex::decode` meets its contract. Invariant: the bytes from place i on have still to be written. Measure: these bytes. Assumes nothing.
+-- `hex::decode` meets its contract. Invariant: the bytes from place i on have still to be written. Measure: these bytes.
 use Rattle.number.specs.Big.{put}
 use mathlib.Core.Path.{ap, ap₂, _∙_}
 use Prim.Native.Nat.{_+_, _*_, _-_, _/_}

@@ -1,4 +1,4 @@
--- `hex::digit` meets its contract: a rule of sixteen numbers. Assumes nothing.
+-- `hex::digit` meets its contract: a rule of sixteen numbers.
 use Rattle.hex.specs.Hex.Laws.{digit-is}
 use borrow.Author.Needs.{needs}
 use Rattle.hex.proofs.digit.Statement.{statement}

@@ -1,4 +1,4 @@
--- `hex::digit_of` meets its contract: a rule of every digit. Assumes nothing.
+-- `hex::digit_of` meets its contract: a rule of every digit.
 use Rattle.hex.specs.Hex.Laws.{digitOf-is, digitOf-low}
 use native.Mathlib.Omega.{arith}
 use borrow.Author.Needs.{needs}

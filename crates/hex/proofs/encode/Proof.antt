@@ -1,5 +1,4 @@
 -- `hex::encode` meets its contract. Invariant: the digits of the bytes from place i on have still to be written. Measure: these bytes.
--- Assumes nothing.
 use Prim.Native.Nat.{_-_}
 use lib.ListN.{length, length-set}
 use Rattle.hex.specs.Hex.Code.{Spelling, spelling-none, spelling-more, spelling-end}

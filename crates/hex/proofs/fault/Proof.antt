@@ -1,4 +1,4 @@
--- `hex::fault` meets its contract: the ways out part the characters at 0, 9, a and f. Assumes nothing.
+-- `hex::fault` meets its contract: the ways out part the characters at 0, 9, a and f.
 use Rattle.hex.specs.Hex.Code.{fault-before, fault-figure, fault-between, fault-letter, fault-behind}
 use Rattle.hex.proofs.fault.Statement.{statement}
 use Rattle.hex.proofs.fault.Tie as tie

@@ -2,7 +2,6 @@
 --     fault, faults, allDigits-faults                     the characters that are no digits, counted
 --     Filling, filling-none, filling-more, filling-end    bytes written one by one, each by its place
 --     Spelling, spelling-none, spelling-more, spelling-end    bytes written as digits, one by one
--- Assumes nothing.
 use mathlib.Core.Path.{_≡_, refl, sym, ap, _∙_}
 use Prim.Native.Nat.{ℕ, suc, _+_, _-_, _*_, _/_, _%_, _≤_, _<_}
 use native.Mathlib.Nat.{add-zero, zero-add, sub-zero}

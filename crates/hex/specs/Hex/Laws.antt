@@ -1,6 +1,6 @@
 -- Laws of digits and of the bytes that they spell: reading and writing are inverse to each other.
---     digitOf-low, digitOf-is     a digit's number is below 16, and how the code reckons it
---     digit-is                    how the code reckons a digit
+--     digitOf-low, digitOf-is     a digit's number is below 16, and how the code computes it
+--     digit-is                    how the code computes a digit
 --     isDigit-digit, digitOf-digit, digit-digitOf    a number's digit is one, and the two go both ways
 --     allDigits-first, allDigits-rest, allDigits-at     each character of a line of digits is one
 --     length-hexOf, hexOf-append       two digits a byte, and bytes end to end
@@ -9,7 +9,6 @@
 --     bytesIn-hexOf               the bytes that bytes as digits spell are these bytes
 --     hexOf-bytesIn               the digits of the bytes that a line spells are this line
 --     bytes-bytesIn               what a line of digits spells are bytes
--- Assumes nothing.
 use mathlib.Core.Path.{_≡_, refl, ap, _∙_, subst}
 use mathlib.Core.Logic.{_⊎_, inl, inr, ⊎-elim}
 use Prim.Native.Nat.{ℕ, zero, suc, _+_, _*_, _/_, _%_, _<_}
@@ -147,7 +146,7 @@ pub length-bytesIn : (line : List ℕ) → length (bytesIn line) ≡ length line
 unfolding bytesIn
 length-bytesIn line = length-listed (length line / 2) 0 _
 
--- the byte that the digits at place 2i and behind it spell
+-- the byte that the digits at place 2i and after it spell
 abbrev pub pairAt : List ℕ → ℕ → ℕ
 pairAt line i = digitOf (getD line (2 * i) 0) * 16 + digitOf (getD line (2 * i + 1) 0)
 

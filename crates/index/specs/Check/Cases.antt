@@ -7,19 +7,19 @@ use Rattle.number.specs.Big.{be}
 use Rattle.refusal.specs.declared.Refusal.the-variants.{TrayFrame, KeyOrder, IndexFrame, Segment}
 use Rattle.tray.specs.Frame.{runCount, countOf, recordsBefore, startOf, runBytes, headerFits, countsFit, framed}
 use Rattle.tray.specs.Run.{recordFrom, kindWrong, keyWrong, judgeFrom}
-use Rattle.tray.specs.Check.{afterRun, checkRuns, checkTray}
+use Rattle.tray.specs.Check.{afterRun, checkRuns, checkTrayAnswer}
 use Rattle.tray.specs.Sample.{sample}
 use Rattle.index.specs.declared.IndexAnswer.{IndexAnswer}
 use Rattle.index.specs.declared.IndexAnswer.the-variants.{Segments, Refused}
 use Rattle.index.specs.Layout.{sizeOf, segmentCount, headSize, segmentAt, indexFramed}
 use Rattle.index.specs.Scan.{marked, raise, begins, joins, offsetsHold, onlyPlaceholders, nextIn, hasNext, headsAbove, usedUp, names, closed, following, selectorsScan, segmentScan, scanFrom}
-use Rattle.index.specs.Check.{afterScan, judgeIndex, framedIndex, afterTray, checkIndex}
+use Rattle.index.specs.Check.{afterScan, judgeIndex, framedIndex, afterTray, checkIndexAnswer}
 use Rattle.index.specs.Sample.{sampleIndex}
 
 -- check index with all that it computes by: to unfold it is to unfold them
 checked : List ℕ → List ℕ → IndexAnswer
-unfolding checkIndex afterTray framedIndex judgeIndex afterScan indexFramed sizeOf segmentCount headSize segmentAt scanFrom segmentScan selectorsScan following closed names headsAbove usedUp hasNext nextIn offsetsHold onlyPlaceholders begins joins marked raise checkTray checkRuns afterRun judgeFrom kindWrong keyWrong recordFrom framed headerFits countsFit runCount countOf recordsBefore startOf runBytes be
-checked t x = checkIndex t x
+unfolding checkIndexAnswer afterTray framedIndex judgeIndex afterScan indexFramed sizeOf segmentCount headSize segmentAt scanFrom segmentScan selectorsScan following closed names headsAbove usedUp hasNext nextIn offsetsHold onlyPlaceholders begins joins marked raise checkTrayAnswer checkRuns afterRun judgeFrom kindWrong keyWrong recordFrom framed headerFits countsFit runCount countOf recordsBefore startOf runBytes be
+checked t x = checkIndexAnswer t x
 
 -- refusal 5
 abbrev wrong : ℕ → IndexAnswer
@@ -51,149 +51,149 @@ abbrev twice : ℕ → ℕ → List ℕ
 twice k l = 2 ∷ 0 ∷ 0 ∷ 0 ∷ 0 ∷ 1 ∷ 0 ∷ 1 ∷ (point k ++ point l)
 
 -- the sample's index is accepted, and so is one that ends a segment earlier
-pub sound : checkIndex sample sampleIndex ≡ Segments 1
+pub sound : checkIndexAnswer sample sampleIndex ≡ Segments 1
 unfolding checked
 sound = refl
 
-pub ends-early : checkIndex sample (inTwo (four 0x00 0x81 0x3f 0x3f) 2 1 1 (four 0x01 0x3f 0x3f 0x3f)) ≡ Segments 2
+pub ends-early : checkIndexAnswer sample (inTwo (four 0x00 0x81 0x3f 0x3f) 2 1 1 (four 0x01 0x3f 0x3f 0x3f)) ≡ Segments 2
 unfolding checked
 ends-early = refl
 
 -- 1 to 3: the tray decides first
-pub tray-frame : checkIndex (take 4 sample) sampleIndex ≡ Refused TrayFrame
+pub tray-frame : checkIndexAnswer (take 4 sample) sampleIndex ≡ Refused TrayFrame
 unfolding checked
 tray-frame = refl
 
-pub tray-key : checkIndex (set sample 65 1) [] ≡ Refused (KeyOrder 2)
+pub tray-key : checkIndexAnswer (set sample 65 1) [] ≡ Refused (KeyOrder 2)
 unfolding checked
 tray-key = refl
 
 -- 4: the header,
-pub no-bytes : checkIndex sample [] ≡ Refused IndexFrame
+pub no-bytes : checkIndexAnswer sample [] ≡ Refused IndexFrame
 unfolding checked
 no-bytes = refl
 
-pub other-runs : checkIndex sample (set sampleIndex 0 3) ≡ Refused IndexFrame
+pub other-runs : checkIndexAnswer sample (set sampleIndex 0 3) ≡ Refused IndexFrame
 unfolding checked
 other-runs = refl
 
-pub byte-2 : checkIndex sample (set sampleIndex 2 1) ≡ Refused IndexFrame
+pub byte-2 : checkIndexAnswer sample (set sampleIndex 2 1) ≡ Refused IndexFrame
 unfolding checked
 byte-2 = refl
 
-pub byte-3 : checkIndex sample (set sampleIndex 3 1) ≡ Refused IndexFrame
+pub byte-3 : checkIndexAnswer sample (set sampleIndex 3 1) ≡ Refused IndexFrame
 unfolding checked
 byte-3 = refl
 
 -- the segment size,
-pub size-1 : checkIndex sample (without 1) ≡ Refused IndexFrame
+pub size-1 : checkIndexAnswer sample (without 1) ≡ Refused IndexFrame
 unfolding checked
 size-1 = refl
 
-pub size-2 : checkIndex sample (without 2) ≡ wrong 0
+pub size-2 : checkIndexAnswer sample (without 2) ≡ wrong 0
 unfolding checked
 size-2 = refl
 
-pub size-128 : checkIndex sample (without 128) ≡ wrong 0
+pub size-128 : checkIndexAnswer sample (without 128) ≡ wrong 0
 unfolding checked
 size-128 = refl
 
-pub size-129 : checkIndex sample (without 129) ≡ Refused IndexFrame
+pub size-129 : checkIndexAnswer sample (without 129) ≡ Refused IndexFrame
 unfolding checked
 size-129 = refl
 
 -- the length
-pub byte-missing : checkIndex sample (take 23 sampleIndex) ≡ Refused IndexFrame
+pub byte-missing : checkIndexAnswer sample (take 23 sampleIndex) ≡ Refused IndexFrame
 unfolding checked
 byte-missing = refl
 
-pub byte-after : checkIndex sample (sampleIndex ++ (0 ∷ [])) ≡ Refused IndexFrame
+pub byte-after : checkIndexAnswer sample (sampleIndex ++ (0 ∷ [])) ≡ Refused IndexFrame
 unfolding checked
 byte-after = refl
 
 -- 5: records left over, where there is no segment and where all are right
-pub all-left : checkIndex sample (without 4) ≡ wrong 0
+pub all-left : checkIndexAnswer sample (without 4) ≡ wrong 0
 unfolding checked
 all-left = refl
 
-pub one-left : checkIndex sample (spelling (four 0x00 0x81 0x3f 0x3f)) ≡ wrong 1
+pub one-left : checkIndexAnswer sample (spelling (four 0x00 0x81 0x3f 0x3f)) ≡ wrong 1
 unfolding checked
 one-left = refl
 
 -- only 0x3f is a placeholder, it is never the first selector, and no selector follows it
-pub placeholder-7f : checkIndex sample (spelling (four 0x00 0x81 0x01 0x7f)) ≡ wrong 0
+pub placeholder-7f : checkIndexAnswer sample (spelling (four 0x00 0x81 0x01 0x7f)) ≡ wrong 0
 unfolding checked
 placeholder-7f = refl
 
-pub placeholder-bf : checkIndex sample (spelling (four 0x00 0x81 0x01 0xbf)) ≡ wrong 0
+pub placeholder-bf : checkIndexAnswer sample (spelling (four 0x00 0x81 0x01 0xbf)) ≡ wrong 0
 unfolding checked
 placeholder-bf = refl
 
-pub placeholder-ff : checkIndex sample (spelling (four 0x00 0x81 0x01 0xff)) ≡ wrong 0
+pub placeholder-ff : checkIndexAnswer sample (spelling (four 0x00 0x81 0x01 0xff)) ≡ wrong 0
 unfolding checked
 placeholder-ff = refl
 
-pub placeholder-first : checkIndex sample (spelling (four 0x3f 0x00 0x81 0x01)) ≡ wrong 0
+pub placeholder-first : checkIndexAnswer sample (spelling (four 0x3f 0x00 0x81 0x01)) ≡ wrong 0
 unfolding checked
 placeholder-first = refl
 
-pub placeholder-between : checkIndex sample (spelling (four 0x00 0x81 0x3f 0x01)) ≡ wrong 0
+pub placeholder-between : checkIndexAnswer sample (spelling (four 0x00 0x81 0x3f 0x01)) ≡ wrong 0
 unfolding checked
 placeholder-between = refl
 
 -- a selector's run is one of the tray, and has a record left
-pub run-2 : checkIndex sample (spelling (four 0x00 0x81 0x02 0x3f)) ≡ wrong 0
+pub run-2 : checkIndexAnswer sample (spelling (four 0x00 0x81 0x02 0x3f)) ≡ wrong 0
 unfolding checked
 run-2 = refl
 
-pub none-left : checkIndex sample (spelling (four 0x00 0x81 0x01 0x01)) ≡ wrong 0
+pub none-left : checkIndexAnswer sample (spelling (four 0x00 0x81 0x01 0x01)) ≡ wrong 0
 unfolding checked
 none-left = refl
 
 -- the old mark stands where it must, and nowhere else; equal keys newest first
-pub mark-missing : checkIndex sample (spelling (four 0x00 0x01 0x01 0x3f)) ≡ wrong 0
+pub mark-missing : checkIndexAnswer sample (spelling (four 0x00 0x01 0x01 0x3f)) ≡ wrong 0
 unfolding checked
 mark-missing = refl
 
-pub mark-too-many : checkIndex sample (spelling (four 0x00 0x81 0x81 0x3f)) ≡ wrong 0
+pub mark-too-many : checkIndexAnswer sample (spelling (four 0x00 0x81 0x81 0x3f)) ≡ wrong 0
 unfolding checked
 mark-too-many = refl
 
-pub oldest-first : checkIndex sample (spelling (four 0x01 0x80 0x01 0x3f)) ≡ wrong 0
+pub oldest-first : checkIndexAnswer sample (spelling (four 0x01 0x80 0x01 0x3f)) ≡ wrong 0
 unfolding checked
 oldest-first = refl
 
 -- a gone record is marked so, old or not, and what stands below it is old
-pub gone : checkIndex (twice 1 0) (spelling (four 0x40 0x81 0x3f 0x3f)) ≡ Segments 1
+pub gone : checkIndexAnswer (twice 1 0) (spelling (four 0x40 0x81 0x3f 0x3f)) ≡ Segments 1
 unfolding checked
 gone = refl
 
-pub gone-old : checkIndex (twice 1 1) (spelling (four 0x40 0xc1 0x3f 0x3f)) ≡ Segments 1
+pub gone-old : checkIndexAnswer (twice 1 1) (spelling (four 0x40 0xc1 0x3f 0x3f)) ≡ Segments 1
 unfolding checked
 gone-old = refl
 
-pub gone-unmarked : checkIndex (twice 1 0) (spelling (four 0x00 0x81 0x3f 0x3f)) ≡ wrong 0
+pub gone-unmarked : checkIndexAnswer (twice 1 0) (spelling (four 0x00 0x81 0x3f 0x3f)) ≡ wrong 0
 unfolding checked
 gone-unmarked = refl
 
-pub below-gone : checkIndex (twice 1 0) (spelling (four 0x40 0x01 0x3f 0x3f)) ≡ wrong 0
+pub below-gone : checkIndexAnswer (twice 1 0) (spelling (four 0x40 0x01 0x3f 0x3f)) ≡ wrong 0
 unfolding checked
 below-gone = refl
 
 -- the anchor is the first key; the offsets are those of the first key, not of the last
-pub anchor-last : checkIndex sample (set sampleIndex 15 2) ≡ wrong 0
+pub anchor-last : checkIndexAnswer sample (set sampleIndex 15 2) ≡ wrong 0
 unfolding checked
 anchor-last = refl
 
-pub offsets-last : checkIndex sample (set (set sampleIndex 17 1) 19 1) ≡ wrong 0
+pub offsets-last : checkIndexAnswer sample (set (set sampleIndex 17 1) 19 1) ≡ wrong 0
 unfolding checked
 offsets-last = refl
 
-pub offset-second : checkIndex sample (inTwo (four 0x00 0x81 0x3f 0x3f) 2 1 2 (four 0x01 0x3f 0x3f 0x3f)) ≡ wrong 1
+pub offset-second : checkIndexAnswer sample (inTwo (four 0x00 0x81 0x3f 0x3f) 2 1 2 (four 0x01 0x3f 0x3f 0x3f)) ≡ wrong 1
 unfolding checked
 offset-second = refl
 
 -- all versions of a key share a segment
-pub versions-cut : checkIndex sample (inTwo (four 0x00 0x3f 0x3f 0x3f) 1 1 0 (four 0x81 0x01 0x3f 0x3f)) ≡ wrong 0
+pub versions-cut : checkIndexAnswer sample (inTwo (four 0x00 0x3f 0x3f 0x3f) 1 1 0 (four 0x81 0x01 0x3f 0x3f)) ≡ wrong 0
 unfolding checked
 versions-cut = refl

@@ -4,7 +4,6 @@
 --     used-is                            the counts as the code has them
 --     judged-frame, judged-wrong         the frame decides
 --     checked-tray, checked-index, records-opened    the tray decides first
--- Assumes nothing.
 use mathlib.Core.Path.{_≡_, refl, sym, ap, _∙_}
 use Prim.Native.Nat.{ℕ, zero, suc, _+_, _-_, _≤_, _<_}
 use native.Mathlib.Omega.{arith}
@@ -21,7 +20,7 @@ use Rattle.tray.specs.Frame.{runCount, countOf, Framing, Opened}
 use Rattle.tray.specs.Frame.Code.{opened}
 use Rattle.tray.specs.Frame.Laws.{fits-framed}
 use Rattle.tray.specs.declared.frame.TrayFrame.{TrayFrame}
-use Rattle.tray.specs.Check.{checkTray}
+use Rattle.tray.specs.Check.{checkTrayAnswer}
 use Rattle.tray.specs.Check.Theorems.{answers-records}
 use Rattle.index.specs.declared.frame.IndexFrame.the-variants.{Fits, Wrong}
 use Rattle.index.specs.declared.IndexAnswer.{IndexAnswer}
@@ -31,7 +30,7 @@ use Rattle.index.specs.Layout.Code.{Laid, indexFrame}
 use Rattle.index.specs.Scan.{Outcome, wrong, right, Scanned, wrongAt, through, usedUp, segmentScan, scanFrom}
 use Rattle.index.specs.Scan.Code.{Reading, sameTo, told}
 use Rattle.index.specs.Scan.Code.Follow.{reading-same}
-use Rattle.index.specs.Check.{afterScan, noneRead, judgeIndex, framedIndex, afterTray, checkIndex}
+use Rattle.index.specs.Check.{afterScan, noneRead, judgeIndex, framedIndex, afterTray, checkIndexAnswer}
 
 -- the segments from g on answer for all of them
 pub record Scanning (t x : List ℕ) (h d n : ℕ) (counts starts places : List ℕ) (g : ℕ) : Type 0 where
@@ -134,17 +133,17 @@ module _ (t x : List ℕ) {h : ℕ} (runs : h ≡ runCount t) where
       go false f q = rw (← runs, f)
 
 -- the tray decides first
-module _ (t x : List ℕ) {a : TrayAnswer} (told-tray : a ≡ checkTray t) where
-  pub checked-tray : {r : Refusal} → a ≡ TrayRefused r → Refused r ≡ checkIndex t x
-  unfolding checkIndex afterTray
+module _ (t x : List ℕ) {a : TrayAnswer} (told-tray : a ≡ checkTrayAnswer t) where
+  pub checked-tray : {r : Refusal} → a ≡ TrayRefused r → Refused r ≡ checkIndexAnswer t x
+  unfolding checkIndexAnswer afterTray
   checked-tray e = ap (afterTray t x) (sym e ∙ told-tray)
 
-  pub checked-index : {n : ℕ} {b : IndexAnswer} → a ≡ Records n → b ≡ framedIndex t x → b ≡ checkIndex t x
-  unfolding checkIndex afterTray
+  pub checked-index : {n : ℕ} {b : IndexAnswer} → a ≡ Records n → b ≡ framedIndex t x → b ≡ checkIndexAnswer t x
+  unfolding checkIndexAnswer afterTray
   checked-index e j = j ∙ ap (afterTray t x) (sym e ∙ told-tray)
 
 -- a tray with records has the frame
-pub records-opened : (t : List ℕ) {a : TrayAnswer} {n : ℕ} {f : TrayFrame} → a ≡ checkTray t → a ≡ Records n → Framing t f → Opened t f
+pub records-opened : (t : List ℕ) {a : TrayAnswer} {n : ℕ} {f : TrayFrame} → a ≡ checkTrayAnswer t → a ≡ Records n → Framing t f → Opened t f
 records-opened t {n = n} told-tray e g =
     let sound = answers-records t n .0 (sym told-tray ∙ e) .0 in
     opened t g (g .fits ∙ fits-framed t (sound .frame))

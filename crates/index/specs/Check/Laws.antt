@@ -3,7 +3,6 @@
 --     says-check    whatever the table gives is check index's answer
 --     says-one      so the table gives one answer
 --     check-says    and check index gives an answer exactly when the table does
--- Assumes nothing.
 use mathlib.Core.Path.{_≡_, refl, sym, ap, _∙_, subst, subst₂}
 use mathlib.Core.Logic.{_↔_}
 use Prim.Native.Nat.{ℕ, suc, _+_, _-_, _≤_}
@@ -18,7 +17,7 @@ use Rattle.theory.specs.View.{view}
 use Rattle.tray.specs.declared.TrayAnswer.{TrayAnswer}
 use Rattle.tray.specs.declared.TrayAnswer.the-variants.{Records, Refused as TrayRefused}
 use Rattle.tray.specs.Frame.{runCount, recordsBefore}
-use Rattle.tray.specs.Check.{checkTray, Sound}
+use Rattle.tray.specs.Check.{checkTrayAnswer, Sound}
 use Rattle.tray.specs.Check.Theorems.{answers-records}
 use Rattle.tray.specs.Meaning.{runsOf}
 use Rattle.index.specs.declared.IndexAnswer.{IndexAnswer}
@@ -32,7 +31,7 @@ use Rattle.index.specs.Scan.{Scanned, wrongAt, through, usedUp, scanFrom
 use Rattle.index.specs.Scan.Places.{placesOf, placesOf-none}
 use Rattle.index.specs.Scan.Heads.{used-none, none-used}
 use Rattle.index.specs.Scan.All.{Comes, stops, passes, scan-comes, follows-scan, wrong-scan}
-use Rattle.index.specs.Check.{framedIndex, afterScan, judgeIndex, afterTray, checkIndex, Says, refused-tray, refused-4, refused-5, left-over, accepted}
+use Rattle.index.specs.Check.{framedIndex, afterScan, judgeIndex, afterTray, checkIndexAnswer, Says, refused-tray, refused-4, refused-5, left-over, accepted}
 
 module _ (t x : List ℕ) where
   -- the index's segments
@@ -88,22 +87,22 @@ module _ (t x : List ℕ) where
     says-judged =
         rw judge-is (says-scan (scan-comes sound x (sizeOf x) some-selector (segmentCount x) 0 (cut-start (runsOf t))))
 
-  pub says : Says t x (checkIndex t x)
-  unfolding checkIndex afterTray framedIndex
-  says = go (checkTray t) refl
+  pub says : Says t x (checkIndexAnswer t x)
+  unfolding checkIndexAnswer afterTray framedIndex
+  says = go (checkTrayAnswer t) refl
     where
-      go : (a : TrayAnswer) → checkTray t ≡ a → Says t x (afterTray t x a)
+      go : (a : TrayAnswer) → checkTrayAnswer t ≡ a → Says t x (afterTray t x a)
       go (TrayRefused r) e = refused-tray r e
       go (Records n) e =
           let sound = answers-records t n .0 e .0 in
           split (Says t x) (indexFramed (runCount t) x) (λ y. says-judged sound (index-fits (runCount t) x y))
           (λ y. refused-4 sound (λ f. clash (fits-index (runCount t) x f) y))
 
-  check-sound : Sound t → checkIndex t x ≡ cond (indexFramed (runCount t) x) (judgeIndex t x) (Refused IndexFrame)
-  unfolding checkIndex afterTray framedIndex
+  check-sound : Sound t → checkIndexAnswer t x ≡ cond (indexFramed (runCount t) x) (judgeIndex t x) (Refused IndexFrame)
+  unfolding checkIndexAnswer afterTray framedIndex
   check-sound sound = ap (afterTray t x) (answers-records t (recordsBefore t (runCount t)) .1 (sound, refl))
 
-  check-frame : Sound t → (IndexFramed (runCount t) x → ⊥) → checkIndex t x ≡ Refused IndexFrame
+  check-frame : Sound t → (IndexFramed (runCount t) x → ⊥) → checkIndexAnswer t x ≡ Refused IndexFrame
   check-frame sound f =
       check-sound sound
       ∙ cases (indexFramed (runCount t) x) (λ y. absurd (f (index-fits (runCount t) x y))) (λ n. rw n)
@@ -114,7 +113,7 @@ module _ (t x : List ℕ) where
   all-taken = take-listed (segmentCount x) (segmentCount x) 0 (segmentOf (runCount t) x) (le-refl (segmentCount x))
 
   module _ (sound : Sound t) (fits : IndexFramed (runCount t) x) where
-    check-judged : {o : Scanned} → scanned ≡ o → checkIndex t x ≡ answer o
+    check-judged : {o : Scanned} → scanned ≡ o → checkIndexAnswer t x ≡ answer o
     check-judged e = check-sound sound ∙ rw (fits-index (runCount t) x fits) (judge-is ∙ ap answer e)
 
     -- the first n segments are right one after the other, and j come after them
@@ -139,7 +138,7 @@ module _ (t x : List ℕ) where
     unfolding scanFrom
     scan-ends f = scan-past (segmentCount x) 0 (sym (add-zero (segmentCount x))) (rw all-taken f)
 
-    check-left : LeftOver (runsOf t) segments → checkIndex t x ≡ Refused (Segment (segmentCount x))
+    check-left : LeftOver (runsOf t) segments → checkIndexAnswer t x ≡ Refused (Segment (segmentCount x))
     unfolding afterScan
     check-left v =
         let end = scan-ends (v .right-all) in
@@ -147,13 +146,13 @@ module _ (t x : List ℕ) where
         ∙ cases (usedUp t (placesOf (v .behind)) (runCount t))
         (λ y. absurd (v .some-left (used-none sound (v .behind) (end .1) y))) (λ n. rw n)
 
-    check-accepted : Accepted (runsOf t) segments → checkIndex t x ≡ Segments (segmentCount x)
+    check-accepted : Accepted (runsOf t) segments → checkIndexAnswer t x ≡ Segments (segmentCount x)
     unfolding afterScan
     check-accepted f =
         let end = scan-ends f in check-judged (end .0) ∙ rw (none-used sound (view keyOf (runsOf t)) (end .1))
 
-  pub says-check : {a : IndexAnswer} → Says t x a → checkIndex t x ≡ a
-  unfolding checkIndex afterTray framedIndex afterScan
+  pub says-check : {a : IndexAnswer} → Says t x a → checkIndexAnswer t x ≡ a
+  unfolding checkIndexAnswer afterTray framedIndex afterScan
   says-check (refused-tray r e) = ap (afterTray t x) e
   says-check (refused-4 sound f) = check-frame sound f
   says-check (refused-5 n sound fits v) = check-judged sound fits (scan-stops sound fits n v)
@@ -164,5 +163,5 @@ module _ (t x : List ℕ) where
   says-one a b = sym (says-check a) ∙ says-check b
 
   -- check index gives an answer exactly when the table does
-  pub check-says : (a : IndexAnswer) → (checkIndex t x ≡ a) ↔ Says t x a
+  pub check-says : (a : IndexAnswer) → (checkIndexAnswer t x ≡ a) ↔ Says t x a
   check-says a = (λ e. subst (Says t x) e says, λ s. says-check s)

@@ -1,11 +1,10 @@
--- Check index in the table's words (document 01, "The index" and "Refusals by number"): each answer exactly when.
+-- Check index in the table's words (docs/RULES.md, "The index" and "Refusals by number"): each answer exactly when.
 --     answers-segments     an index is accepted exactly when it follows the rules, and its segments are then counted
 --     refuses-tray         1 to 3 are given exactly where check tray gives them
 --     refuses-4            4: the frame
 --     refuses-5            5: the first wrong segment, or S for left-over records
 --     never-right          no right segment has a selector 0x7f, 0xbf or 0xff
 --     never-accepted       and no accepted index
--- Assumes nothing.
 use mathlib.Core.Path.{_≡_, refl, sym, ap, _∙_, subst}
 use mathlib.Core.Logic.{⊎-elim, _↔_}
 use Prim.Native.Nat.{ℕ, _%_, _≤_}
@@ -24,7 +23,7 @@ use Rattle.theory.specs.View.Laws.{view-at}
 use Rattle.tray.specs.declared.TrayAnswer.{TrayAnswer}
 use Rattle.tray.specs.declared.TrayAnswer.the-variants.{Refused as TrayRefused}
 use Rattle.tray.specs.Frame.{runCount}
-use Rattle.tray.specs.Check.{checkTray, Sound, Says as TraySays, refused-1, refused-2, refused-3, records}
+use Rattle.tray.specs.Check.{checkTrayAnswer, Sound, Says as TraySays, refused-1, refused-2, refused-3, records}
 use Rattle.tray.specs.Check.Laws.{check-says as tray-says}
 use Rattle.tray.specs.Meaning.{runsOf}
 use Rattle.index.specs.declared.IndexAnswer.{IndexAnswer}
@@ -34,7 +33,7 @@ use Rattle.index.specs.Layout
 use Rattle.index.specs.Rules.{placeholder, keyOf, Item, selectorOf, Right, Follows, here, next, Accepted, FirstWrong, LeftOver}
 use Rattle.index.specs.Rules.Laws.{spelled-mem, selectorOf-run}
 use Rattle.index.specs.Scan.Entry.{few-runs}
-use Rattle.index.specs.Check.{checkIndex, Says, refused-tray, refused-4, refused-5, left-over, accepted}
+use Rattle.index.specs.Check.{checkIndexAnswer, Says, refused-tray, refused-4, refused-5, left-over, accepted}
 use Rattle.index.specs.Check.Laws.{check-says}
 
 -- a refusal's number in the table
@@ -43,7 +42,7 @@ numberOf r = verdictOf r .number
 
 module _ (t : List ℕ) where
   -- check tray gives 1, 2 and 3 alone
-  tray-number : (r : Refusal) → checkTray t ≡ TrayRefused r → numberOf r ≤ 3
+  tray-number : (r : Refusal) → checkTrayAnswer t ≡ TrayRefused r → numberOf r ≤ 3
   tray-number r e = from (tray-says t (TrayRefused r) .0 e) refl
     where
       from : {a : TrayAnswer} → TraySays t a → a ≡ TrayRefused r → numberOf r ≤ 3
@@ -54,7 +53,7 @@ module _ (t : List ℕ) where
 
   module _ (x : List ℕ) where
     -- without a refusal check index answers S, and that exactly when the index follows the rules
-    pub answers-segments : (n : ℕ) → (checkIndex t x ≡ Segments n)
+    pub answers-segments : (n : ℕ) → (checkIndexAnswer t x ≡ Segments n)
         ↔ (Sound t × IndexFramed (runCount t) x × Accepted (runsOf t) (segmentsOf (runCount t) x) × (n ≡ segmentCount x))
     answers-segments n = (
       λ e. from (check-says t x (Segments n) .0 e) refl,
@@ -70,10 +69,10 @@ module _ (t : List ℕ) where
         from (accepted s f w) q = (s, f, w, cc)
 
     -- 1 to 3: check tray refuses so
-    pub refuses-tray : (r : Refusal) → numberOf r ≤ 3 → (checkIndex t x ≡ Refused r) ↔ (checkTray t ≡ TrayRefused r)
+    pub refuses-tray : (r : Refusal) → numberOf r ≤ 3 → (checkIndexAnswer t x ≡ Refused r) ↔ (checkTrayAnswer t ≡ TrayRefused r)
     refuses-tray r l = (λ e. from (check-says t x (Refused r) .0 e) refl, λ e. check-says t x (Refused r) .1 (refused-tray r e))
       where
-        from : {a : IndexAnswer} → Says t x a → a ≡ Refused r → checkTray t ≡ TrayRefused r
+        from : {a : IndexAnswer} → Says t x a → a ≡ Refused r → checkTrayAnswer t ≡ TrayRefused r
         from (refused-tray m e) q = let p : m ≡ r = cc in e ∙ ap TrayRefused p
         from (refused-4 s f) q = let p : IndexFrame ≡ r = cc in absurd (omega (arith, ap numberOf p))
         from (refused-5 m s f w) q = let p : Segment m ≡ r = cc in absurd (omega (arith, ap numberOf p))
@@ -81,7 +80,7 @@ module _ (t : List ℕ) where
         from (accepted s f w) q = never (cc)
 
     -- 4: the tray is sound, and the index breaks the frame
-    pub refuses-4 : (checkIndex t x ≡ Refused IndexFrame) ↔ (Sound t × (IndexFramed (runCount t) x → ⊥))
+    pub refuses-4 : (checkIndexAnswer t x ≡ Refused IndexFrame) ↔ (Sound t × (IndexFramed (runCount t) x → ⊥))
     refuses-4 = (
       λ e. from (check-says t x (Refused IndexFrame) .0 e) refl,
       λ w. check-says t x (Refused IndexFrame) .1 (refused-4 (w .0) (w .1)),
@@ -100,7 +99,7 @@ module _ (t : List ℕ) where
       all-right : LeftOver (runsOf t) (segmentsOf (runCount t) x) → Figure (segmentCount x)
 
     -- 5: the tray is sound, the index has the frame, and n is this figure
-    pub refuses-5 : (n : ℕ) → (checkIndex t x ≡ Refused (Segment n)) ↔ (Sound t × IndexFramed (runCount t) x × Figure n)
+    pub refuses-5 : (n : ℕ) → (checkIndexAnswer t x ≡ Refused (Segment n)) ↔ (Sound t × IndexFramed (runCount t) x × Figure n)
     refuses-5 n = (
       λ e. from (check-says t x (Refused (Segment n)) .0 e) refl,
       λ w. check-says t x (Refused (Segment n)) .1 (to (w .0) (w .1) (w .2)),
@@ -143,6 +142,6 @@ follows-alone {t} {b = b} few whole (next {own = own} {v = v} p r f) s m =
     ⊎-elim (λ e. subst PlaceholderAlone (sym e) (never-right few apart r))
     (λ k. follows-alone few (apart ∙ sym (append-assoc b own v)) f s k) (List·Memᴰ·cases-cons m)
 
-pub never-accepted : (t x : List ℕ) (n : ℕ) → checkIndex t x ≡ Segments n
+pub never-accepted : (t x : List ℕ) (n : ℕ) → checkIndexAnswer t x ≡ Segments n
     → (s : Layout.Segment) → Mem s (segmentsOf (runCount t) x) → PlaceholderAlone s
 never-accepted t x n e = let w = answers-segments t x n .0 e in follows-alone (few-runs (w .0)) refl (w .2)

@@ -4,7 +4,6 @@
 --     frame-fits, frame-long        the length decides
 --     Laid, laid                    a frame that fits, as the functions below a call ask for it
 --     segmentAt-next, segment-within    where segments lie
--- Assumes nothing.
 use mathlib.Core.Path.{_≡_, refl, sym, ap, _∙_}
 use Prim.Native.Nat.{ℕ, suc, _+_, _*_, _≤_, _<_}
 use native.Mathlib.Nat.{le-trans, le-of-lt, mul-le-mul-left, mul-le-mul-right}

@@ -1,9 +1,8 @@
 -- Laws of where things lie in an index.
---     index-fits, fits-index                    the frame as a test, and as 01 has it
+--     index-fits, fits-index                    the frame as a test, and as the rules have it
 --     getD-listed, take-listed, listed-some     the member at a place of a list, and its first members
 --     offset-at                                 the offset of a run
 --     selectors-listed                          a segment's selectors are the bytes from a place on
--- Assumes nothing.
 use mathlib.Core.Path.{_≡_, refl, sym, ap, _∙_}
 use Prim.Native.Nat.{ℕ, zero, suc, _+_, _≤_, _<_}
 use native.Mathlib.Nat.{zero-add, add-zero, add-suc, suc-add}

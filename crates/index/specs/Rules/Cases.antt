@@ -1,4 +1,4 @@
--- Worked cases of the selectors that the rules ask for: rows b, c, e and f of document 01, "Small trays to prove". Each holds by computation.
+-- Worked cases of the selectors that the rules ask for: rows b, c, e and f of docs/RULES.md, "Small trays to prove". Each holds by computation.
 use mathlib.Core.Path.{_≡_, refl}
 use Prim.Native.Nat.{ℕ}
 use mathlib.Core.List.{List, [], _∷_, map}

@@ -4,7 +4,6 @@
 --     Above, above-whole, whole-above               a key is whole exactly when all that is left has higher keys
 --     Cut, cut-start, cut-next                      a cut, the first one, and the next one
 --     cut-rest, cut-low, cut-rises                  what is left after it
--- Assumes nothing.
 use mathlib.Core.Path.{_≡_, refl, sym, ap, _∙_}
 use mathlib.Core.Logic.{⊎-elim}
 use Prim.Native.Nat.{_≤_, _<_}

@@ -4,7 +4,6 @@
 --     filled-ended, ended-filled                     once there is a placeholder
 --     spelled-end, spelled-more, spelled-mem         the selectors before the first placeholder
 --     marks-run, selectorOf-run                      a selector's low six bits are the run
--- Assumes nothing.
 use mathlib.Core.Path.{_≡_, _∙_}
 use mathlib.Core.Logic.{_⊎_, inl, inr, ⊎-elim}
 use Prim.Native.Nat.{ℕ, zero, suc, _+_, _%_, _≤_, _<_}

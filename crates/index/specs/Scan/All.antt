@@ -5,7 +5,6 @@
 --     segment-right, right-segment     the scan passes a segment exactly where the next records make it right
 --     Comes, scan-comes                what the scan came to, in the rules' words
 --     follows-scan, wrong-scan         and that the scan comes to what the rules say
--- Assumes nothing.
 use mathlib.Core.Path.{_≡_, refl, sym, ap, _∙_, subst₂}
 use Prim.Native.Nat.{ℕ, zero, suc, _+_, _≤_}
 use native.Mathlib.Nat.{add-zero}

@@ -1,5 +1,4 @@
 -- What the code of the scan needs of the definitions: each law is a way out of a function, or a turn of its loop.
--- Assumes nothing.
 pub mod Follow
 pub mod Select
 pub mod Steps
@@ -11,9 +10,7 @@ use mathlib.Core.List.{List}
 use lib.ListN.{length, getD}
 use lib.Dec.{eqb, ltb}
 use borrow.Author.Tests.{eq-eqb, ne-eqb}
-use Rattle.theory.specs.Records.{Record}
 use Rattle.tray.specs.Frame.{runCount, countOf, Starts}
-use Rattle.index.specs.declared.Head.{Head}
 use Rattle.index.specs.Layout.{offsetFrom}
 use Rattle.index.specs.Scan.{Trail, lost, kept, Outcome, wrong, right, runIn, nextIn, hasNext, names, raise, begins, joins, headsAbove, offsetsHold, onlyPlaceholders}
 
@@ -24,15 +21,6 @@ pub record Reading (t counts starts places : List ℕ) : Type 0 where
   pub room-counts : length counts ≡ 63
   pub room-places : length places ≡ 63
   pub counts-are : (r : ℕ) → r < runCount t → getD counts r 0 ≡ countOf t r
-
--- what the code reads of a record
-pub record HeadOf (e : Head) (whole : Record) : Type 0 where
-  pub key : e .key ≡ whole .key
-  pub kind : e .kind ≡ whole .kind
-
--- a record of which no more is known
-abbrev pub headed : Head → Record
-headed e = record { key = e .key; kind = e .kind; value = 0 }
 
 -- a run's next key, if it has one, is above the last one
 unfoldable pub aboveIn : List ℕ → List ℕ → ℕ → ℕ → Bool

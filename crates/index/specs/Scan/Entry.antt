@@ -5,7 +5,6 @@
 --     nextEntry, has-head                       the next record of a run that has one left
 --     head-run, head-low, head-has, head-is     and that no other is
 --     names-head, head-names                    the same for the run that a selector names
--- Assumes nothing.
 use mathlib.Core.Path.{_≡_, refl, sym, ap, _∙_}
 use Prim.Native.Nat.{ℕ, _%_, _≤_, _<_}
 use native.Mathlib.Nat.{zero-add}

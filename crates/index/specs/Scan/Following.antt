@@ -2,7 +2,6 @@
 --     mark-run, mark-names, mark-entry     the selector of a record that is the next one of its run names that record
 --     Spelt, following-spelt               what the scan has read where it passes
 --     trails-following                     and that it passes where the selectors trail
--- Assumes nothing.
 use mathlib.Core.Path.{_≡_, refl, sym, ap, _∙_}
 use Prim.Native.Nat.{ℕ, zero, suc, _+_, _%_, _<_}
 use native.Mathlib.Omega.{arith}

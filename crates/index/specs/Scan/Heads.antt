@@ -2,7 +2,6 @@
 --     head-left                    what comes next of a run is left
 --     heads-above, above-heads     every run's next key is above the last one exactly where all keys that are left are
 --     used-none, none-used         every run has been read to its end exactly where nothing is left
--- Assumes nothing.
 use mathlib.Core.Path.{_≡_, sym, ap, _∙_}
 use Prim.Native.Nat.{ℕ, _≤_, _<_}
 use native.Mathlib.Omega.{arith}

@@ -7,7 +7,6 @@
 --     usedUp-all, all-usedUp                               every run has been read to its end
 --     marked-run, marked-spells                            a selector's run; no record's selector is a placeholder
 --     joins-before, joins-mark, before-joins               a selector that joins the record before it
--- Assumes nothing.
 use mathlib.Core.Path.{_≡_, refl, ap}
 use mathlib.Core.Logic.{_⊎_, inl, inr, ⊎-elim}
 use Prim.Native.Nat.{ℕ, zero, suc, _%_, _<_}

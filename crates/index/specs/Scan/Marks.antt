@@ -2,7 +2,6 @@
 --     marks              the selectors of records that follow c, each old exactly where it has the key of the one before it
 --     first-mark         the first record after a cut is not old
 --     true-marks         the others are old exactly where the one before them has their key
--- Assumes nothing.
 use mathlib.Core.Path.{_≡_, refl, sym, ap, _∙_}
 use Prim.Native.Nat.{ℕ, _≤_}
 use mathlib.Core.Bool.{false}

@@ -2,7 +2,6 @@
 --     held-right, right-held          the offsets hold exactly where they are right
 --     Opens                           the first selector and those after it spell the segment's records
 --     begins-opens, opens-begins      the first selector passes the scan exactly where they do
--- Assumes nothing.
 use mathlib.Core.Path.{_≡_, sym, ap, _∙_}
 use Prim.Native.Nat.{ℕ, _%_, _<_}
 use native.Mathlib.Omega.{arith}

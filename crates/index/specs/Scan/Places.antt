@@ -3,7 +3,6 @@
 --     placesOf-none                      at the start
 --     getD-placesOf, length-placesOf     the place of a run
 --     raise-placesOf                     one record more
--- Assumes nothing.
 use mathlib.Core.Path.{_≡_, refl, sym, _∙_}
 use Prim.Native.Nat.{ℕ, _+_, _<_}
 use native.Mathlib.Omega.{arith}

@@ -3,7 +3,6 @@
 --     right-none               a right segment has a record
 --     Judged, scans-right      the records that the scan finds come next in the view and make the segment right
 --     right-scans              and the scan finds whatever does
--- Assumes nothing.
 use mathlib.Core.Path.{_≡_, refl, sym, ap, ap₂, _∙_, subst}
 use Prim.Native.Nat.{ℕ, _≤_, _<_}
 use native.Mathlib.Omega.{arith}

@@ -3,7 +3,6 @@
 --     Scans, Found        what the scan finds: the records of the segment, c and then es, and the places after them
 --     segment-scans       where it passes
 --     scans-segment       and that it passes there
--- Assumes nothing.
 use mathlib.Core.Path.{_≡_, refl, sym, ap, _∙_, subst, subst₂}
 use Prim.Native.Nat.{ℕ, suc, _+_, _-_}
 use native.Mathlib.Omega.{arith}

@@ -4,7 +4,6 @@
 --     trails-none, trails-end, joint-trails    no selector, placeholders, and one that joins
 --     trails-empty, trails-ends, trails-joint  and there is no other way
 --     takes-head                               the first record that is read
--- Assumes nothing.
 use mathlib.Core.Path.{_≡_, refl, sym, ap₂, _∙_}
 use Prim.Native.Nat.{ℕ, _<_}
 use native.Mathlib.Omega.{arith}

@@ -1,4 +1,4 @@
--- `index_check::check_index` meets its contract: the tray decides, and then the index. Assumes nothing.
+-- `index_check::check_index` meets its contract: the tray decides, and then the index.
 use Rattle.index.specs.Check.Code.{checked-tray, checked-index, records-opened}
 use borrow.Author.Needs.{needs}
 use Rattle.index_check.proofs.check_index.Statement.{statement}

@@ -1,5 +1,4 @@
 -- `index_check::check_segments` meets its contract. Invariant: the segments left answer for all of them. Measure: the segments left.
--- Assumes nothing.
 use mathlib.Core.Path.{sym}
 use Prim.Native.Nat.{_-_}
 use Rattle.index.specs.Layout.Code.{segment-within}
@@ -23,23 +22,23 @@ loop-holds c =
 segment-at-requires : tie.Need-segment-at-requires Inv-loop μ-loop
 segment-at-requires c κs = search needs
 
-slice-aggregate-segment : tie.Need-slice-aggregate-segment Inv-loop μ-loop
-slice-aggregate-segment c =
+slice-aggregate-check-segment : tie.Need-slice-aggregate-check-segment Inv-loop μ-loop
+slice-aggregate-check-segment c =
     let opened = c .before .before .before .before .before .before .before .before .pre .0 in
     sym (opened .room)
 
-slice-aggregate-segment-2 : tie.Need-slice-aggregate-segment-2 Inv-loop μ-loop
-slice-aggregate-segment-2 c =
+slice-aggregate-check-segment-2 : tie.Need-slice-aggregate-check-segment-2 Inv-loop μ-loop
+slice-aggregate-check-segment-2 c =
     let opened = c .before .before .before .before .before .before .before .before .before .pre .0 in
     sym (opened .at .room)
 
-slice-aggregate-segment-3 : tie.Need-slice-aggregate-segment-3 Inv-loop μ-loop
-slice-aggregate-segment-3 c =
+slice-aggregate-check-segment-3 : tie.Need-slice-aggregate-check-segment-3 Inv-loop μ-loop
+slice-aggregate-check-segment-3 c =
     let loop = c .before .before .before .before .before .loop in
     sym (loop .inv .reading .room-places)
 
-segment-requires : tie.Need-segment-requires Inv-loop μ-loop
-segment-requires c κs =
+check-segment-requires : tie.Need-check-segment-requires Inv-loop μ-loop
+check-segment-requires c κs =
     let back = c .before .before .before in
     let segment-at = back .segment-at in
     let loop-test = back .before .loop-test in
@@ -62,13 +61,13 @@ loop-less c = omega arith
 loop-again : tie.Need-loop-again Inv-loop μ-loop
 loop-again c =
     let back = c .before .before in
-    let segment = back .segment in
-    let segment-places-kept = back .segment .kept .1 .1 .1 .1 .1 .1 .1 .0 in
+    let check-segment = back .check-segment in
+    let check-segment-places-kept = back .check-segment .kept .1 .1 .1 .1 .1 .1 .1 .0 in
     let back = back .before .before .before .before in
     let segment-at = back .segment-at in
     let loop-test = back .before .loop-test in
     let loop = back .before .before .loop in
-    scanning-on (loop .inv) _ _ (loop-test .taken) (segment-at .ensures) (segment .ensures) (c .if1 .taken) segment-places-kept
+    scanning-on (loop .inv) _ _ (loop-test .taken) (segment-at .ensures) (check-segment .ensures) (c .if1 .taken) check-segment-places-kept
 
 cast-t21 : tie.Need-cast-t21 Inv-loop μ-loop
 cast-t21 c = search needs
@@ -76,14 +75,14 @@ cast-t21 c = search needs
 returns : tie.Need-returns Inv-loop μ-loop
 returns c =
     let back = c .before .before in
-    let segment = back .segment in
+    let check-segment = back .check-segment in
     let back = back .before .before .before .before in
     let segment-at = back .segment-at in
     let loop-test = back .before .loop-test in
     let loop = back .before .before .loop in
     let opened = back .before .before .before .before .before .before .before .pre .0 in
     let laid = back .before .before .before .before .before .before .before .pre .1 in
-    scanned-wrong laid (opened .runs) (loop .inv) _ _ (loop-test .taken) (segment-at .ensures) (segment .ensures) (c .if1 .left)
+    scanned-wrong laid (opened .runs) (loop .inv) _ _ (loop-test .taken) (segment-at .ensures) (check-segment .ensures) (c .if1 .left)
 
 slice-aggregate-used-up : tie.Need-slice-aggregate-used-up Inv-loop μ-loop
 slice-aggregate-used-up c =
@@ -129,10 +128,10 @@ check-segments-spec =
     μ-loop
     loop-holds
     segment-at-requires
-    slice-aggregate-segment
-    slice-aggregate-segment-2
-    slice-aggregate-segment-3
-    segment-requires
+    slice-aggregate-check-segment
+    slice-aggregate-check-segment-2
+    slice-aggregate-check-segment-3
+    check-segment-requires
     add-g
     loop-less
     loop-again

@@ -1,4 +1,4 @@
--- `index_check::judge_index` meets its contract: the frame decides, and then the segments. Assumes nothing.
+-- `index_check::judge_index` meets its contract: the frame decides, and then the segments.
 use Rattle.index.specs.Check.Code.{judged-frame, judged-wrong}
 use Rattle.index.specs.Layout.Code.{laid}
 use mathlib.Core.Path.{sym, _∙_}

@@ -1,4 +1,4 @@
--- `kanyorith::hand_over` meets its contract: a way out for each answer. Assumes nothing.
+-- `kanyorith::hand_over` meets its contract: a way out for each answer.
 use Rattle.kanyorith.specs.Code.{sought-found, sought-end, sought-refused}
 use borrow.Author.Needs.{needs}
 use Rattle.kanyorith.proofs.hand_over.Statement.{statement}

@@ -1,4 +1,4 @@
--- `kanyorith::kanyorith_build` meets its promise: a way out for each answer. Assumes nothing.
+-- `kanyorith::kanyorith_build` meets its promise: a way out for each answer.
 use Rattle.kanyorith.specs.Code.{build-wrote, build-refused}
 use borrow.Author.Needs.{needs}
 use Rattle.kanyorith.proofs.kanyorith_build.Statement.{statement}

@@ -1,4 +1,4 @@
--- `kanyorith::kanyorith_check_index` meets its promise: a way out for each answer. Assumes nothing.
+-- `kanyorith::kanyorith_check_index` meets its promise: a way out for each answer.
 use Rattle.kanyorith.specs.Code.{index-segments, index-refused}
 use borrow.Author.Needs.{needs}
 use Rattle.kanyorith.proofs.kanyorith_check_index.Statement.{statement}

@@ -1,4 +1,4 @@
--- `kanyorith::kanyorith_fold` meets its promise: a way out for each answer. Assumes nothing.
+-- `kanyorith::kanyorith_fold` meets its promise: a way out for each answer.
 use Rattle.kanyorith.specs.Code.{fold-wrote, fold-refused}
 use borrow.Author.Needs.{needs}
 use Rattle.kanyorith.proofs.kanyorith_fold.Statement.{statement}

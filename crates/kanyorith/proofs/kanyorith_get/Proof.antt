@@ -1,4 +1,4 @@
--- `kanyorith::kanyorith_get` meets its promise: a way out for each answer. Assumes nothing.
+-- `kanyorith::kanyorith_get` meets its promise: a way out for each answer.
 use Rattle.kanyorith.specs.Code.{get-found, get-absent, get-refused}
 use borrow.Author.Needs.{needs}
 use Rattle.kanyorith.proofs.kanyorith_get.Statement.{statement}

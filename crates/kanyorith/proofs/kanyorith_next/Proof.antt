@@ -1,4 +1,4 @@
--- `kanyorith::kanyorith_next` meets its promise: what `hand_over` promises, of the call's own answer. Assumes nothing.
+-- `kanyorith::kanyorith_next` meets its promise: what `hand_over` promises, of the call's own answer.
 use mathlib.Core.Path.{subst, ap, _∙_}
 use Rattle.answers.specs.Next.{nextAnswer}
 use Rattle.kanyorith.specs.Code.Narrow.{sought-narrow}

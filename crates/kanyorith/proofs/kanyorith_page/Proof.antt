@@ -1,4 +1,4 @@
--- `kanyorith::kanyorith_page` meets its promise: a way out for each answer. Assumes nothing.
+-- `kanyorith::kanyorith_page` meets its promise: a way out for each answer.
 use mathlib.Core.Path.{subst, ap, _∙_}
 use Rattle.answers.specs.Page.{pageAnswer, pageLeaves}
 use Rattle.kanyorith.specs.Code.Narrow.{page-narrow}

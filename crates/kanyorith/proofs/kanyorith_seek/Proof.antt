@@ -1,4 +1,4 @@
--- `kanyorith::kanyorith_seek` meets its promise: what `hand_over` promises, of the call's own answer. Assumes nothing.
+-- `kanyorith::kanyorith_seek` meets its promise: what `hand_over` promises, of the call's own answer.
 use mathlib.Core.Path.{subst}
 use Rattle.kanyorith.specs.Promises.{Sought}
 use borrow.Author.Needs.{needs}

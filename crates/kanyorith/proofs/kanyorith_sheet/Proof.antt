@@ -1,4 +1,4 @@
--- `kanyorith::kanyorith_sheet` meets its promise: a way out for each answer. Assumes nothing.
+-- `kanyorith::kanyorith_sheet` meets its promise: a way out for each answer.
 use Rattle.kanyorith.specs.Code.{sheet-listed, sheet-refused}
 use borrow.Author.Needs.{needs}
 use Rattle.kanyorith.proofs.kanyorith_sheet.Statement.{statement}

@@ -3,7 +3,6 @@
 --     high-not                  a selector of D or more belongs nowhere
 --     next-high, page-high      next and page there
 --     sought-narrow, page-narrow     so the narrow cursor's answer is the cursor's own
--- Assumes nothing.
 use mathlib.Core.Path.{_≡_, refl, sym, ap, _∙_, subst}
 use Prim.Native.Nat.{ℕ, _≤_, _<_}
 use native.Mathlib.Omega.{arith}
@@ -21,7 +20,7 @@ use Rattle.walk.specs.declared.cursor.Cursor.{Cursor}
 use Rattle.walk.specs.Walk.{Spot}
 use Rattle.walk.specs.Reads.{belongs}
 use Rattle.walk.specs.Code.{spotOf}
-use Rattle.walk.specs.Answers.{inFrames}
+use Rattle.answers.specs.Quick.{inFrames}
 use Rattle.answers.specs.Next.{refusedNext, nextFramed, nextAnswer}
 use Rattle.answers.specs.Page.{refusedPage, pageFramed, leftFramed, pageAnswer, pageLeaves}
 use Rattle.kanyorith.specs.Promises.{cursorLeft, Sought, pageCursorLeft, Paging}

@@ -1,4 +1,4 @@
--- `limits::longest` takes the last byte off a tray that has one. Assumes nothing.
+-- `limits::longest` takes the last byte off a tray that has one.
 use native.Mathlib.Omega.{arith}
 use lib.ListN.{length-take}
 use borrow.Author.Needs.{needs}

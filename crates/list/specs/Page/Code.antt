@@ -4,7 +4,6 @@
 --     Paging                                   both loops of the page
 --     paging-first, paging-inner, paging-back, paging-enter    where they begin
 --     paging-pass, paging-write, paging-marked                 their turns
--- Assumes nothing.
 use mathlib.Core.Path.{_≡_, refl, sym, ap, ap₂, _∙_}
 use Prim.Native.Nat.{ℕ, _+_, _*_, _/_, _%_, _^_, _≤_, _<_}
 use native.Mathlib.Omega.{arith}
@@ -31,7 +30,7 @@ use Rattle.list.specs.Page.{soFar}
 value-halves : (s : List ℕ) (at : ℕ) → be 8 s (at + 8) < 256 ^ 8 → bytesOf 8 (be 8 s at) ++ bytesOf 8 (be 8 s (at + 8)) ≡ bytesOf 16 (be 16 s at)
 value-halves s at l = sym (bytesOf-add 8 8 (be 8 s at) (be 8 s (at + 8)) l) ∙ ap (bytesOf 16) (sym (be-add 8 8 s at))
 
--- three writes, one right behind another, of 8 bytes each
+-- three writes, one right after another, of 8 bytes each
 put-three : (s : List ℕ) (at a b d : ℕ) → at ≤ length s
     → put (put (put s at (bytesOf 8 a)) (at + 8) (bytesOf 8 b)) (at + 16) (bytesOf 8 d) ≡ put s at (bytesOf 8 a ++ (bytesOf 8 b ++ bytesOf 8 d))
 put-three s at a b d l =

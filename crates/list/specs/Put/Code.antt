@@ -1,7 +1,6 @@
 -- What the code that writes gathered records needs of the definition.
 --     Putting, putting-first, putting-more, putting-all     the loop that writes
 --     part-long                                             a record's own stretch of the tray
--- Assumes nothing.
 use mathlib.Core.Path.{_≡_, refl, sym, ap, ap₂, _∙_}
 use Prim.Native.Nat.{ℕ, _+_, _-_, _*_, _≤_, _<_}
 use native.Mathlib.Nat.{add-zero}

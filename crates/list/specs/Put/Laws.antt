@@ -1,7 +1,6 @@
 -- Laws of `putAll`.
 --     putAll-more, length-putAll      one record more, and that the output stays as long
 --     putAll-written                  from the front on it is the listing of the records
--- Assumes nothing.
 use mathlib.Core.Path.{_≡_, refl, sym, ap, _∙_}
 use Prim.Native.Nat.{ℕ, suc, _+_, _*_, _≤_}
 use native.Mathlib.Nat.{add-zero}
@@ -34,7 +33,7 @@ length-putAll t (a ∷ bs) count out l =
     let one : length (put out (24 * count) (listedBytes (recordFrom t a))) ≡ length out = length-put out (24 * count) (listedBytes (recordFrom t a)) (omega arith) in
     length-putAll t bs (count + 1) (put out (24 * count) (listedBytes (recordFrom t a))) (omega arith) ∙ one
 
--- behind some that are written
+-- after some that are written
 putAll-behind : (t bs : List ℕ) (es : List Record) (out : List ℕ)
     → putAll t bs (length es) (written es out .out) ≡ written (es ++ map (recordFrom t) bs) out .out
 unfolding putAll write written

@@ -1,10 +1,9 @@
 -- What the code that gathers needs of the definitions.
---     clear-is, clear-le                                   a selector as a number
+--     unmarked-is, unmarked-le                                   a selector as a number
 --     Gathering                                            the loop that gathers
 --     gathering-first, gathering-pass, gathering-name      where it begins, and its turns
 --     gathered-no-run, gathered-no-place, gathered-all     its ends
 --     gathering-names, gathered-past                       the same of places as numbers
--- Assumes nothing.
 use mathlib.Core.Path.{_≡_, refl, sym, ap, ap₂, _∙_, subst}
 use Prim.Native.Nat.{ℕ, suc, _+_, _-_, _*_, _/_, _%_, _≤_, _<_}
 use native.Mathlib.Nat.{add-zero}
@@ -28,13 +27,13 @@ use Rattle.list.specs.Stops.{stopsIn, stopIn, positionOf, positions, Gat
 use Rattle.list.specs.Stops.Laws.{stopAt, stops-pass, stops-name, stops-marked, stops-lost, stop-pass, stop-name, stop-lost}
 
 -- a selector with neither mark is 1, any other 0
-pub clear-is : (v : ℕ) {w : ℕ} → v < 256 → w ≡ v → (319 - w) / 256 ≡ cond (unmarked v) 1 0
+pub unmarked-is : (v : ℕ) {w : ℕ} → v < 256 → w ≡ v → (319 - w) / 256 ≡ cond (unmarked v) 1 0
 unfolding unmarked
-clear-is v {w} l e = cases (ltb v 64) (λ y. let a = ltb-true v 64 y in rw y (omega arith)) (λ n. let a = ltb-false v 64 n in rw n (omega arith))
+unmarked-is v {w} l e = cases (ltb v 64) (λ y. let a = ltb-true v 64 y in rw y (omega arith)) (λ n. let a = ltb-false v 64 n in rw n (omega arith))
 
-pub clear-le : (v : ℕ) {u : ℕ} → u ≡ cond (unmarked v) 1 0 → u ≤ 1
+pub unmarked-le : (v : ℕ) {u : ℕ} → u ≡ cond (unmarked v) 1 0 → u ≤ 1
 unfolding unmarked
-clear-le v {u} e = cases (ltb v 64) (λ y. let z : u ≡ 1 = e ∙ rw y in omega arith) (λ n. let z : u ≡ 0 = e ∙ rw n in omega arith)
+unmarked-le v {u} e = cases (ltb v 64) (λ y. let z : u ≡ 1 = e ∙ rw y in omega arith) (λ n. let z : u ≡ 0 = e ∙ rw n in omega arith)
 
 -- the loop that gathers: k records stand in `ats`, and with those from here on they are all; the segment ends where it does from here on
 pub record Gathering (t x : List ℕ) (d g s₀ : ℕ) (places₀ : List Place) (before : ℕ) (ats₀ : List ℕ) (s : ℕ) (places : List Place) (k : ℕ) (ats : List ℕ) : Type 0 where
@@ -126,7 +125,7 @@ module _ {t x : List ℕ} {d g s₀ : ℕ} {places₀ : List Place} {before : �
         gathered-no-place a = gathered-lost (named-past w v places below e a)
 
         module _ (there : getD places j (placed 0) .0 < getD counts j 0) where
-          -- the places behind the record
+          -- the places after the record
           abbrev behind : List Place
           behind = set places j (placed (getD places j (placed 0) .0 + 1))
 

@@ -6,7 +6,6 @@
 --     record-part, record-run                             a record in a part of the tray, and in its run
 --     Right, stops-right                                  each stop is unmarked, and its record is the one at its position, inside the tray
 --     within-none, within-at, within-take, within-append, within-stops, gathered-within     positions inside the tray
--- Assumes nothing.
 use mathlib.Core.Path.{_≡_, refl, sym, ap, _∙_, subst}
 use Prim.Native.Nat.{ℕ, zero, suc, _+_, _-_, _*_, _≤_, _<_}
 use native.Mathlib.Omega.{arith}
@@ -31,10 +30,10 @@ use Rattle.walk.specs.Walk.Tours.{after, after-ext, tourThen}
 use Rattle.walk.specs.Walk.Segment.{walk-passed, walk-visits}
 use Rattle.walk.specs.Reads.{unmarked, recordBy}
 use Rattle.walk.specs.Code.{numbers}
-use Rattle.list.specs.Stops.{Stop, stopsIn, stopIn, positionOf, positions, Within, GatheredFrom}
+use Rattle.list.specs.Stops.{NamedStop, stopsIn, stopIn, positionOf, positions, Within, GatheredFrom}
 
 -- a selector with the walk at it
-abbrev pub stopAt : ℕ → ℕ → ℕ → List ℕ → Stop
+abbrev pub stopAt : ℕ → ℕ → ℕ → List ℕ → NamedStop
 stopAt v g s places = record { selector = v; spot = record { segment = g; selector = s; places = places } }
 
 module _ (t x : List ℕ) (k g s : ℕ) (places : List ℕ) {v : ℕ} (read : v ≡ selectorAt (runCount t) x g s) where
@@ -75,10 +74,10 @@ unfolding walkSelectors
 walk-lost t x visit k g s places st rest real n = rw (ne-eqb (selectorAt (runCount t) x g s) 63 real, n)
 
 -- the visitor at a stop
-abbrev pub seenAt : {S R : Type 0} → (ℕ → Spot → S → Visit S R) → Stop → S → Visit S R
+abbrev pub seenAt : {S R : Type 0} → (ℕ → Spot → S → Visit S R) → NamedStop → S → Visit S R
 seenAt visit p st = visit (p .selector) (p .spot) st
 
--- what comes after the stops of a segment: the walk is lost, or goes on behind it
+-- what comes after the stops of a segment: the walk is lost, or goes on after it
 unfoldable pub thenOn : {S R : Type 0} (rest : S → Walked S R) (g stop end : ℕ) → S → Walked S R
 thenOn rest g stop end st = cond (ltb stop end) (lost g stop st) (rest st)
 
@@ -142,7 +141,7 @@ record-run t r p l =
     record-part t (startOf t r) (startOf t (suc r) - startOf t r) (25 * p) (omega arith)
 
 -- a stop is unmarked, and its record is the one at its position, inside the tray
-pub record Right (t : List ℕ) (p : Stop) : Type 0 where
+pub record Right (t : List ℕ) (p : NamedStop) : Type 0 where
   pub clear : unmarked (p .selector) ≡ true
   pub inside : positionOf t p + 25 ≤ length t
   pub is : recordFrom t (positionOf t p) ≡ recordBy t (p .selector) (p .spot)
@@ -198,10 +197,10 @@ within-append {t} cs bs a b = record { ends = λ i l. by cs a i l }
     by (c ∷ cs) a zero l = a .ends zero (omega arith)
     by (c ∷ cs) a (suc i) l = by cs (record { ends = λ j k. a .ends (suc j) (omega arith) }) i (omega arith)
 
-pub within-stops : {t : List ℕ} (ps : List Stop) → All (Right t) ps → Within t (map (positionOf t) ps)
+pub within-stops : {t : List ℕ} (ps : List NamedStop) → All (Right t) ps → Within t (map (positionOf t) ps)
 within-stops {t} ps r = record { ends = λ i l. by ps r i l }
   where
-    by : (ps : List Stop) → All (Right t) ps → (i : ℕ) → i < length (map (positionOf t) ps) → getD (map (positionOf t) ps) i 0 + 25 ≤ length t
+    by : (ps : List NamedStop) → All (Right t) ps → (i : ℕ) → i < length (map (positionOf t) ps) → getD (map (positionOf t) ps) i 0 + 25 ≤ length t
     by [] r i l = absurd (omega arith)
     by (p ∷ ps) r zero l = r p here .inside
     by (p ∷ ps) r (suc i) l = by ps (all-tail r) i (omega arith)

@@ -4,7 +4,6 @@
 --     Found, found-none, found-more, found-all    the next keys, run by run
 --     RunCut, run-cut                             a run cut out of the tray, with its count
 --     padded-none                                 before the first key
--- Assumes nothing.
 use mathlib.Core.Path.{_≡_, sym, ap, _∙_, subst}
 use Prim.Native.Nat.{ℕ, _+_, _-_, _*_, _≤_, _<_}
 use native.Mathlib.Numerals.{add-one}

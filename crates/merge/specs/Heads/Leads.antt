@@ -1,4 +1,4 @@
--- The run that comes next: the first of those with the least key, found block by block. Assumes nothing.
+-- The run that comes next: the first of those with the least key, found block by block.
 pub mod Laws
 pub mod Next
 use Prim.Native.Nat.{ℕ, _+_, _*_, _≤_, _<_}

@@ -3,7 +3,6 @@
 --     on-gap, on-go, on-stay           past a selector, or at it
 --     lost-run, lost-place             the loss rule
 --     told-found, told-lost, told-end  what next tells of the end of the walk
--- Assumes nothing.
 use mathlib.Core.Path.{_≡_, sym, ap, ap₂, _∙_, subst}
 use Prim.Native.Nat.{ℕ, _+_, _-_, _%_, _≤_, _<_}
 use native.Mathlib.Omega.{arith}
@@ -15,14 +14,14 @@ use Rattle.tray.specs.declared.Place.{Place}
 use Rattle.tray.specs.Frame.{runCount, countOf}
 use Rattle.index.specs.Layout.{segmentCount}
 use Rattle.walk.specs.declared.cursor.Cursor.{Cursor}
-use Rattle.walk.specs.declared.Seeks.{Seeks}
-use Rattle.walk.specs.declared.SeekAnswer.the-variants.{Found as FoundAt, End}
+use Rattle.answers.specs.declared.CursorAnswer.{CursorAnswer}
+use Rattle.answers.specs.declared.SeekAnswer.the-variants.{Found as FoundAt, End}
 use Rattle.walk.specs.Walk.{Spot, Walked, stayed, ended, lost, selectorAt, named, walkFrom}
 use Rattle.walk.specs.Reads.{Found, endSpot, foundBy}
 use Rattle.walk.specs.Code.{placed, numbers, getD-numbers, raise-numbers, spotOf, selectors-pass, selectors-lost, selectors-stay, selectors-go}
 use Rattle.walk.specs.Code.Turns.{Here, here-from, here-into, named-run, named-yes, named-past, count-is}
-use Rattle.walk.specs.Answers.{cursorOf, endAt}
-use Rattle.walk.specs.Answers.Code.{cursor-back}
+use Rattle.answers.specs.Quick.{cursorOf, endAt}
+use Rattle.answers.specs.Code.{cursor-back}
 use Rattle.answers.specs.Next.{refusedNext, nextTold, foundNext}
 use Rattle.next.specs.Next.{Going, walks, passedBy, passed-within, passed-room, visibleVisit, visible-go, visible-stay}
 
@@ -36,7 +35,7 @@ starts {t} {x} {h} {d} {n} w v from at m e l k r =
     (here-into (walks w) (here-from (walks w) at 0 (inside .0) (inside .1) (passed-room v at from m r)) (ap (λ (c : Spot). walkFrom t x visibleVisit c 0) m))
 
 -- what next tells of the end of the walk
-module _ (x : List ℕ) (from : Cursor) {whole : Walked ℕ Found} {r : Seeks} where
+module _ (x : List ℕ) (from : Cursor) {whole : Walked ℕ Found} {r : CursorAnswer} where
   pub told-found : (g s : ℕ) (places : List Place) {v i : ℕ} → v < 64 → i ≡ v % 64 → stayed (foundBy v (record { segment = g; selector = s; places = numbers places })) ≡ whole
       → r ≡ foundNext g s places v (getD places i (placed 0)) → r ≡ nextTold x from whole
   unfolding nextTold foundBy spotOf

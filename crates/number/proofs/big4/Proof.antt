@@ -1,4 +1,4 @@
--- `number::big4` meets its contract: each byte is below 256, so no step wraps; the sum is `be 4` written out. Assumes nothing.
+-- `number::big4` meets its contract: each byte is below 256, so no step wraps; the sum is `be 4` written out.
 use native.Mathlib.Omega.{arith}
 use Rattle.number.specs.Big.{be}
 use Rattle.number.proofs.Known.{four}
@@ -6,11 +6,11 @@ use borrow.Author.Needs.{needs}
 use Rattle.number.proofs.big4.Statement.{statement}
 use Rattle.number.proofs.big4.Tie as tie
 
-shared-slice-read-wide32 : tie.Need-shared-slice-read-wide32
-shared-slice-read-wide32 c = search needs
+shared-slice-read-u32-of-u8 : tie.Need-shared-slice-read-u32-of-u8
+shared-slice-read-u32-of-u8 c = search needs
 
-wide32-requires : tie.Need-wide32-requires
-wide32-requires c κs = search needs
+u32-of-u8-requires : tie.Need-u32-of-u8-requires
+u32-of-u8-requires c κs = search needs
 
 mul-result : tie.Need-mul-result
 mul-result c =
@@ -19,14 +19,14 @@ mul-result c =
     let near = four (args .s .now) (args .at) (shared-slice-known .given) in
     omega arith
 
-add-wide32 : tie.Need-add-wide32
-add-wide32 c = search needs
+add-u32-of-u8 : tie.Need-add-u32-of-u8
+add-u32-of-u8 c = search needs
 
-shared-slice-read-wide32-2 : tie.Need-shared-slice-read-wide32-2
-shared-slice-read-wide32-2 c = search needs
+shared-slice-read-u32-of-u8-2 : tie.Need-shared-slice-read-u32-of-u8-2
+shared-slice-read-u32-of-u8-2 c = search needs
 
-wide32-requires-2 : tie.Need-wide32-requires-2
-wide32-requires-2 c κs = search needs
+u32-of-u8-requires-2 : tie.Need-u32-of-u8-requires-2
+u32-of-u8-requires-2 c κs = search needs
 
 add-result : tie.Need-add-result
 add-result c =
@@ -42,14 +42,14 @@ mul-result-2 c =
     let near = four (args .s .now) (args .at) (shared-slice-known .given) in
     omega arith
 
-add-wide32-2 : tie.Need-add-wide32-2
-add-wide32-2 c = search needs
+add-u32-of-u8-2 : tie.Need-add-u32-of-u8-2
+add-u32-of-u8-2 c = search needs
 
-shared-slice-read-wide32-3 : tie.Need-shared-slice-read-wide32-3
-shared-slice-read-wide32-3 c = search needs
+shared-slice-read-u32-of-u8-3 : tie.Need-shared-slice-read-u32-of-u8-3
+shared-slice-read-u32-of-u8-3 c = search needs
 
-wide32-requires-3 : tie.Need-wide32-requires-3
-wide32-requires-3 c κs = search needs
+u32-of-u8-requires-3 : tie.Need-u32-of-u8-requires-3
+u32-of-u8-requires-3 c κs = search needs
 
 add-result-2 : tie.Need-add-result-2
 add-result-2 c =
@@ -65,14 +65,14 @@ mul-result-3 c =
     let near = four (args .s .now) (args .at) (shared-slice-known .given) in
     omega arith
 
-add-wide32-3 : tie.Need-add-wide32-3
-add-wide32-3 c = search needs
+add-u32-of-u8-3 : tie.Need-add-u32-of-u8-3
+add-u32-of-u8-3 c = search needs
 
-shared-slice-read-wide32-4 : tie.Need-shared-slice-read-wide32-4
-shared-slice-read-wide32-4 c = search needs
+shared-slice-read-u32-of-u8-4 : tie.Need-shared-slice-read-u32-of-u8-4
+shared-slice-read-u32-of-u8-4 c = search needs
 
-wide32-requires-4 : tie.Need-wide32-requires-4
-wide32-requires-4 c κs = search needs
+u32-of-u8-requires-4 : tie.Need-u32-of-u8-requires-4
+u32-of-u8-requires-4 c κs = search needs
 
 add-result-3 : tie.Need-add-result-3
 add-result-3 c =
@@ -95,21 +95,21 @@ pub big4-spec : {M : Type 1} → statement M
 big4-spec =
     tie.close
     (tie.spec
-    shared-slice-read-wide32
-    wide32-requires
+    shared-slice-read-u32-of-u8
+    u32-of-u8-requires
     mul-result
-    add-wide32
-    shared-slice-read-wide32-2
-    wide32-requires-2
+    add-u32-of-u8
+    shared-slice-read-u32-of-u8-2
+    u32-of-u8-requires-2
     add-result
     mul-result-2
-    add-wide32-2
-    shared-slice-read-wide32-3
-    wide32-requires-3
+    add-u32-of-u8-2
+    shared-slice-read-u32-of-u8-3
+    u32-of-u8-requires-3
     add-result-2
     mul-result-3
-    add-wide32-3
-    shared-slice-read-wide32-4
-    wide32-requires-4
+    add-u32-of-u8-3
+    shared-slice-read-u32-of-u8-4
+    u32-of-u8-requires-4
     add-result-3
     returns)

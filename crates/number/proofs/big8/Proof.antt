@@ -1,4 +1,4 @@
--- `number::big8` meets its contract: the first half counts 256 to the power 4, which is `be-add`. Assumes nothing.
+-- `number::big8` meets its contract: the first half counts 256 to the power 4, which is `be-add`.
 use native.Mathlib.Omega.{arith}
 use Rattle.number.specs.Big.Laws.{be-add}
 use borrow.Author.Needs.{needs}
@@ -8,8 +8,8 @@ use Rattle.number.proofs.big8.Tie as tie
 big4-requires : tie.Need-big4-requires
 big4-requires c κs = search needs
 
-wide-32-requires : tie.Need-wide-32-requires
-wide-32-requires c κs = search needs
+u64-of-u32-requires : tie.Need-u64-of-u32-requires
+u64-of-u32-requires c κs = search needs
 
 mul-result : tie.Need-mul-result
 mul-result c = search needs
@@ -20,8 +20,8 @@ add-big4 c = search needs
 big4-requires-2 : tie.Need-big4-requires-2
 big4-requires-2 c κs = search needs
 
-wide-32-requires-2 : tie.Need-wide-32-requires-2
-wide-32-requires-2 c κs = search needs
+u64-of-u32-requires-2 : tie.Need-u64-of-u32-requires-2
+u64-of-u32-requires-2 c κs = search needs
 
 add-result : tie.Need-add-result
 add-result c = search needs
@@ -36,10 +36,10 @@ big8-spec =
     tie.close
     (tie.spec
     big4-requires
-    wide-32-requires
+    u64-of-u32-requires
     mul-result
     add-big4
     big4-requires-2
-    wide-32-requires-2
+    u64-of-u32-requires-2
     add-result
     returns)

@@ -1,4 +1,4 @@
--- `number::put2` meets its contract: a store keeps the length, and the two stores leave `put` of the bytes. Assumes nothing.
+-- `number::put2` meets its contract: a store keeps the length, and the two stores leave `put` of the bytes.
 use native.Mathlib.Omega.{arith}
 use native.Mathlib.Numerals.{towards-suc}
 use lib.ListN.{length-set}

@@ -1,4 +1,4 @@
--- `number::put4` meets its contract: a store keeps the length, and the four stores leave `put` of the bytes. Assumes nothing.
+-- `number::put4` meets its contract: a store keeps the length, and the four stores leave `put` of the bytes.
 use native.Mathlib.Omega.{arith}
 use native.Mathlib.Numerals.{towards-suc}
 use lib.ListN.{length-set}

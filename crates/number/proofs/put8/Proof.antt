@@ -1,4 +1,4 @@
--- `number::put8` meets its contract: `put4` writes each half, the second right behind the first, which is `put-halves`. Assumes nothing.
+-- `number::put8` meets its contract: `put4` writes each half, the second right after the first, which is `put-halves`.
 use mathlib.Core.Path.{_∙_}
 use native.Mathlib.Omega.{arith}
 use Rattle.number.specs.Big.Writes.{put-halves}

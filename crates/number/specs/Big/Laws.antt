@@ -13,7 +13,6 @@
 --     bytesOf-be           the bytes of the number that bytes spell are these bytes
 --     bytesOf-whole        the same for a whole list
 --     bytes-take, bytes-drop, bytes-cons, bytes-append     parts and joins of bytes are bytes
--- Assumes nothing.
 use mathlib.Core.Path.{_≡_, refl, ap, ap₂, _∙_}
 use mathlib.Core.List.{List, [], _∷_, _++_, append-nil, append-assoc}
 use Prim.Native.Nat.{ℕ, zero, suc, _+_, _*_, _/_, _%_, _^_, _≤_, _<_}
@@ -110,7 +109,7 @@ bytes-bytesOf zero n i = omega arith
 bytes-bytesOf (suc w) n zero = rw (bytesOf-cons w n) (omega arith)
 bytes-bytesOf (suc w) n (suc i) = rw (bytesOf-cons w n) (bytes-bytesOf w n i)
 
--- a byte put behind a number: the number is the quotient by 256, the byte the remainder
+-- a byte put after a number: the number is the quotient by 256, the byte the remainder
 high-bytes : (n x : ℕ) → x < 256 → (n * 256 + x) / 256 ≡ n
 high-bytes n x h = omega arith
 

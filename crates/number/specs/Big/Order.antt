@@ -3,7 +3,6 @@
 --     lt-before     a key with the lower number comes before
 --     same-number   keys with the same number are the same
 --     key-order     the order of keys, which are 8 bytes
--- Assumes nothing.
 use mathlib.Core.Path.{_≡_, refl, sym, ap, _∙_}
 use mathlib.Core.Logic.{_↔_}
 use mathlib.Core.Bool.{Bool, true, false}

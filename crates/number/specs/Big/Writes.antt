@@ -1,14 +1,13 @@
 -- Laws of `put`. Beside the worked cases only this file looks inside it.
 --     put-sets             what one store a byte leaves is `put`
 --     length-put           the length stays
---     take-put, drop-put   what stands up to the end of what was written, and behind it
---     put-put              one write right behind another is one write
---     put-nil, put-cons    nothing written, and one byte with the rest right behind it
+--     take-put, drop-put   what stands up to the end of what was written, and after it
+--     put-put              one write right after another is one write
+--     put-nil, put-cons    nothing written, and one byte with the rest right after it
 --     put-halves           so a number may be written in two parts
 --     be-put-in            a number that is read out of what was written
 --     be-put-same          a number whose bytes were written is read back
---     be-put-before, be-put-after     a number that lies before or behind what was written is as it was
--- Assumes nothing.
+--     be-put-before, be-put-after     a number that lies before or after what was written is as it was
 use mathlib.Core.Path.{_≡_, sym, ap, _∙_}
 use mathlib.Core.List.{List, [], _∷_, _++_, append-assoc}
 use Prim.Native.Nat.{ℕ, suc, _+_, _-_, _*_, _/_, _%_, _^_, _≤_, _<_}
@@ -33,7 +32,7 @@ length-put s p ys h = ap length (sym (put-sets s p ys h)) ∙ length-sets s p ys
 length-front : (s : List ℕ) (p : ℕ) (ys : List ℕ) → p ≤ length s → length (take p s ++ ys) ≡ p + length ys
 length-front s p ys h = length-append (take p s) ys ∙ ap (λ (n : ℕ). n + length ys) (length-take-le p s h)
 
--- the same list, in two: up to the end of what was written, and behind it
+-- the same list, in two: up to the end of what was written, and after it
 put-front : (s : List ℕ) (p : ℕ) (ys : List ℕ) → put s p ys ≡ (take p s ++ ys) ++ drop (p + length ys) s
 unfolding put
 put-front s p ys = sym (append-assoc (take p s) ys (drop (p + length ys) s))
@@ -43,12 +42,12 @@ pub take-put : (s : List ℕ) (p : ℕ) (ys : List ℕ) → p ≤ length s → t
 take-put s p ys h =
     rw put-front (take-at (take p s ++ ys) (drop (p + length ys) s) (p + length ys) (length-front s p ys h))
 
--- and behind it
+-- and after it
 pub drop-put : (s : List ℕ) (p : ℕ) (ys : List ℕ) → p ≤ length s → drop (p + length ys) (put s p ys) ≡ drop (p + length ys) s
 drop-put s p ys h =
     rw put-front (drop-at (take p s ++ ys) (drop (p + length ys) s) (p + length ys) (length-front s p ys h))
 
--- one write right behind another
+-- one write right after another
 pub put-put : (s : List ℕ) (p : ℕ) (xs ys : List ℕ)
     → p ≤ length s → put (put s p xs) (p + length xs) ys ≡ put s p (xs ++ ys)
 put-put s p xs ys h =
@@ -61,7 +60,7 @@ pub put-nil : (s : List ℕ) (p : ℕ) → put s p [] ≡ s
 unfolding put
 put-nil s p = rw add-zero (take-append-drop p s)
 
--- and one byte with the rest right behind it
+-- and one byte with the rest right after it
 pub put-cons : (s : List ℕ) (p v : ℕ) (ys : List ℕ) → p < length s → put (set s p v) (suc p) ys ≡ put s p (v ∷ ys)
 put-cons s p v ys l =
     let one : set s p v ≡ put s p (v ∷ []) = put-sets s p (v ∷ []) (omega arith) in
@@ -111,7 +110,7 @@ be-behind w s t {k} {q} e l =
     ∙ be-drop w k t (q - k)
     ∙ ap (be w t) (add-sub-of-le l)
 
--- a number that lies behind what was written
+-- a number that lies after what was written
 pub be-put-after : (w : ℕ) (s : List ℕ) (p : ℕ) (ys : List ℕ) (q : ℕ)
     → p ≤ length s → p + length ys ≤ q → be w (put s p ys) q ≡ be w s q
 be-put-after w s p ys q h l = be-behind w (put s p ys) s (drop-put s p ys h) l

@@ -1,11 +1,11 @@
--- `page::page` meets its contract. Assumes nothing.
+-- `page::page` meets its contract.
 use denote.Ref.{now}
 use Rattle.refusal.specs.declared.Refusal.{Refusal}
 use mathlib.Core.Path.{sym, _∙_, refl}
 use Rattle.tray.specs.Frame.Code.{opened}
 use Rattle.index.specs.Layout.Code.{laid}
 use Rattle.answers.specs.Page.{refusedPage, pageAnswer, pageLeaves}
-use Rattle.walk.specs.Answers.Code.{frames-tray, frames-index, frames-fit}
+use Rattle.answers.specs.Code.{frames-tray, frames-index, frames-fit}
 use borrow.Author.Needs.{needs}
 use Rattle.page.proofs.page.Statement.{statement}
 use Rattle.page.proofs.page.Tie as tie

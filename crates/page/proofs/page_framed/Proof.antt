@@ -1,25 +1,15 @@
--- `page::page_framed` meets its contract. Assumes nothing.
+-- `page::page_framed` meets its contract.
 use Rattle.page.specs.Code.{told-is, told-left, page-ends, end-left, page-off, off-left}
 use Rattle.walk_cursor.specs.Tested.{told-spot, belongs-low}
-use Rattle.walk.specs.Answers.Code.{walking}
+use Rattle.answers.specs.Code.{walking}
 use native.Mathlib.Omega.{arith}
 use borrow.Author.Needs.{needs}
 use Rattle.page.proofs.page_framed.Statement.{statement}
 use Rattle.page.proofs.page_framed.Tie as tie
-use Rattle.page.proofs.page_framed.Reads as reads
-use Rattle.page.proofs.page_framed.Lts as lts
-use Rattle.page.proofs.page_ends.Reads as page-ends-reads
-use Rattle.page.proofs.page_refused.Reads as page-refused-reads
-use Rattle.page.proofs.told_page.Reads as told-page-reads
-use Rattle.page.proofs.from.page_from.Reads as page-from-reads
-use Rattle.walk_cursor.proofs.belongs.Reads as belongs-reads
-use Rattle.walk_cursor.proofs.place_numbers.Reads as place-numbers-reads
 
--- src/calls.rt:99:18
 place-numbers-requires : tie.Need-place-numbers-requires
 place-numbers-requires c κs = search needs
 
--- src/calls.rt:102:8
 belongs-requires : tie.Need-belongs-requires
 belongs-requires c κs =
     let back = c .before .before .before .before .before .before .before .before .before in
@@ -27,15 +17,12 @@ belongs-requires c κs =
     let laid = back .pre .1 in
     ((walking opened laid) .index, (walking opened laid) .few)
 
--- src/calls.rt:106:42
 slice-aggregate-page-from : tie.Need-slice-aggregate-page-from
 slice-aggregate-page-from c = search needs
 
--- src/calls.rt:106:51
 slice-aggregate-page-from-2 : tie.Need-slice-aggregate-page-from-2
 slice-aggregate-page-from-2 c = search needs
 
--- src/calls.rt:106:17
 page-from-requires : tie.Need-page-from-requires
 page-from-requires c κs =
     let back = c .before .before .before in
@@ -62,15 +49,12 @@ page-from-requires c κs =
       ),
     )
 
--- src/calls.rt:104:13
 told-page-requires : tie.Need-told-page-requires
 told-page-requires c κs = search needs
 
--- src/calls.rt:104:13
 same-length : tie.Need-same-length
 same-length c = search needs
 
--- src/calls.rt:104:13
 returns : tie.Need-returns
 returns c =
     let back = c .before .before .before in
@@ -101,11 +85,9 @@ returns c =
           (page-from .ensures),
     )
 
--- src/calls.rt:110:9
 page-ends-requires : tie.Need-page-ends-requires
 page-ends-requires c κs = search needs
 
--- src/calls.rt:110:9
 returns-2 : tie.Need-returns-2
 returns-2 c =
     let if2 = c .before .if2 in
@@ -128,15 +110,12 @@ returns-2 c =
       end-left (walking opened laid) _ _ (told-spot _ _ (args .from) (place-numbers .ensures) (belongs .ensures)) (if1 .taken) (if2 .left),
     )
 
--- src/calls.rt:112:43
 cast-t26 : tie.Need-cast-t26
 cast-t26 c = search needs
 
--- src/calls.rt:112:5
 page-refused-requires : tie.Need-page-refused-requires
 page-refused-requires c κs = search needs
 
--- src/calls.rt:81:1
 returns-3 : tie.Need-returns-3
 returns-3 c =
     let back = c .before .before in

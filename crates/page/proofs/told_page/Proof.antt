@@ -1,6 +1,6 @@
--- `page::told_page` meets its contract. Assumes nothing.
+-- `page::told_page` meets its contract.
 use mathlib.Core.Path.{ap, sym, _∙_}
-use Rattle.list.specs.declared.points.Stop.{Stop}
+use Rattle.list.specs.declared.points.Halt.{Halt}
 use Rattle.page.specs.Code.{toldAs}
 use borrow.Author.Needs.{needs}
 use Rattle.page.proofs.told_page.Statement.{statement}
@@ -26,21 +26,21 @@ unfolding toldAs
 returns c =
     let enum-told = c .before .enum-told in
     let args = c .before .before .before .args in
-    ap (λ (a : Stop). toldAs (args .n) (args .from) a (args .p .count) (args .p .cursor)) (sym (enum-told .given .1))
+    ap (λ (a : Halt). toldAs (args .n) (args .from) a (args .p .count) (args .p .cursor)) (sym (enum-told .given .1))
 
 returns-2 : tie.Need-returns-2
 unfolding toldAs
 returns-2 c =
     let enum-told2 = c .before .enum-told2 in
     let args = c .before .before .before .args in
-    c .page-ends .ensures ∙ ap (λ (a : Stop). toldAs (args .n) (args .from) a (args .p .count) (args .p .cursor)) (sym (enum-told2 .given .1))
+    c .page-ends .ensures ∙ ap (λ (a : Halt). toldAs (args .n) (args .from) a (args .p .count) (args .p .cursor)) (sym (enum-told2 .given .1))
 
 returns-3 : tie.Need-returns-3
 unfolding toldAs
 returns-3 c =
     let stop = c .before .before .stop in
     let args = c .before .before .before .before .args in
-    c .page-refused .ensures ∙ ap (λ (a : Stop). toldAs (args .n) (args .from) a (args .p .count) (args .p .cursor)) (sym (stop .given .1))
+    c .page-refused .ensures ∙ ap (λ (a : Halt). toldAs (args .n) (args .from) a (args .p .count) (args .p .cursor)) (sym (stop .given .1))
 
 pub told-page-spec : {M : Type 1} → statement M
 told-page-spec =

@@ -1,4 +1,4 @@
--- `refusal::verdict_of` meets its contract: in each arm the matched case gives its line of the table. Assumes nothing.
+-- `refusal::verdict_of` meets its contract: in each arm the matched case gives its line of the table.
 use mathlib.Core.Path.{ap, sym, _∙_}
 use Rattle.refusal.specs.Table.{told, verdictOf}
 use borrow.Author.Needs.{needs}

@@ -1,6 +1,6 @@
--- `seek::seek` meets its contract: the frames decide, and then the walk. Assumes nothing.
-use Rattle.walk.specs.Answers.{refusedSeek, seekAnswer, seekFramed}
-use Rattle.walk.specs.Answers.Code.{frames-tray, frames-index, frames-fit}
+-- `seek::seek` meets its contract: the frames decide, and then the walk.
+use Rattle.answers.specs.Seek.{refusedSeek, seekAnswer, seekFramed}
+use Rattle.answers.specs.Code.{frames-tray, frames-index, frames-fit}
 use Rattle.index.specs.Layout.Code.{laid}
 use Rattle.tray.specs.Frame.Code.{opened}
 use mathlib.Core.Path.{sym, ap, _∙_}

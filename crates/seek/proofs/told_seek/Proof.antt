@@ -1,42 +1,32 @@
-use Rattle.walk.specs.Answers.{toldAs}
+use Rattle.answers.specs.Seek.{toldAs}
 use mathlib.Core.Path.{ap, sym, _∙_}
 use borrow.Author.Needs.{needs}
 use Rattle.seek.proofs.told_seek.Statement.{statement}
 use Rattle.seek.proofs.told_seek.Tie as tie
-use Rattle.seek.proofs.told_seek.Reads as reads
-use Rattle.seek.proofs.told_seek.Lts as lts
-use Rattle.seek.proofs.seek_refused.Reads as seek-refused-reads
 
--- src/calls.rt:54:22
 enum-known-sight : tie.Need-enum-known-sight
 enum-known-sight c = search needs
 
--- src/calls.rt:62:21
 enum-told : tie.Need-enum-told
 enum-told c = search needs
 
--- src/calls.rt:69:21
 enum-known-sight-2 : tie.Need-enum-known-sight-2
 enum-known-sight-2 c = search needs
 
--- src/calls.rt:69:30
 seek-refused-requires : tie.Need-seek-refused-requires
 seek-refused-requires c κs = search needs
 
--- src/calls.rt:49:1
 returns : tie.Need-returns
 returns c =
     let sight = c .before .before .sight in
     let args = c .before .before .before .before .args in
     ap (λ a. toldAs (args .n) a (args .s .cursor)) (sym (sight .given .1))
 
--- src/calls.rt:49:1
 returns-2 : tie.Need-returns-2
 returns-2 c =
     let args = c .before .before .args in
     ap (λ a. toldAs (args .n) a (args .s .cursor)) (sym (c .enum-told .given .1))
 
--- src/calls.rt:49:1
 returns-3 : tie.Need-returns-3
 returns-3 c =
     let sight2 = c .before .before .sight2 in

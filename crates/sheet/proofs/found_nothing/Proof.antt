@@ -1,4 +1,4 @@
--- `sheet::found_nothing` meets its contract. Assumes nothing.
+-- `sheet::found_nothing` meets its contract.
 use Rattle.sheet.specs.Write.{nothingAt}
 use mathlib.Core.Path.{ap, sym}
 use borrow.Author.Needs.{needs}

@@ -1,4 +1,4 @@
--- `sheet::list_from` meets its contract. Assumes nothing.
+-- `sheet::list_from` meets its contract.
 use Rattle.sheet.specs.Write.{gives-lost, gives-bound, gives-end}
 use native.Mathlib.Omega.{arith}
 use borrow.Author.Needs.{needs}

@@ -1,7 +1,7 @@
--- `sheet::sheet` meets its contract. Assumes nothing.
+-- `sheet::sheet` meets its contract.
 use Rattle.answers.specs.Sheet.{sheetAnswer, sheetLeaves}
 use Rattle.answers.specs.declared.SheetAnswer.the-variants.{Refused}
-use Rattle.walk.specs.Answers.Code.{frames-tray, frames-index, frames-fit}
+use Rattle.answers.specs.Code.{frames-tray, frames-index, frames-fit}
 use Rattle.index.specs.Layout.Code.{laid}
 use Rattle.tray.specs.Frame.Code.{opened}
 use mathlib.Core.Path.{refl, sym, _∙_}

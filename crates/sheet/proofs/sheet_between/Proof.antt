@@ -1,8 +1,8 @@
--- `sheet::sheet_between` meets its contract. Assumes nothing.
+-- `sheet::sheet_between` meets its contract.
 use Rattle.walk.specs.Code.Inside.{seek-below}
 use Rattle.sheet.specs.Write.{gives-none, gives-past, gives-found}
-use Rattle.walk.specs.Answers.Code.{walking}
-use Rattle.walk.specs.Code.Get.{found-there, not-found}
+use Rattle.answers.specs.Code.{walking}
+use Rattle.answers.specs.Get.Code.{found-there, not-found}
 use Rattle.walk.proofs.cursor.Sight.{the-type}
 use Rattle.walk.specs.declared.cursor.Sight.{Sight}
 use denote.Enum.Declared.{tagOf}

@@ -1,4 +1,4 @@
--- `sheet::sheet_framed` meets its contract. Assumes nothing.
+-- `sheet::sheet_framed` meets its contract.
 use lib.ListN.{length}
 use Prim.Native.Nat.{_-_}
 use Rattle.sheet.specs.Write.{framed-none, framed-long, framed-last, framed-gives}

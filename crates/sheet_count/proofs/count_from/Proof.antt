@@ -1,5 +1,5 @@
 -- `sheet_count::count_from` meets its contract. Invariant: sheet's walk stands here with so many records, of which the last are remembered.
--- Measure: the segments left. Assumes nothing.
+-- Measure: the segments left.
 use mathlib.Core.Path.{_≡_, refl, sym, ap, _∙_}
 use Prim.Native.Nat.{_-_}
 use lib.ListN.{length, length-map}
@@ -9,7 +9,7 @@ use Rattle.walk.specs.Code.Turns.{within}
 use Rattle.list.specs.Stops.Laws.{gathered-within}
 use Rattle.list.specs.Steps.{onward-same, onward-from}
 use Rattle.sheet_count.specs.Count.{countedAs}
-use Rattle.sheet_count.specs.Count.Code.{Counting, counting-first, counting-fits, counting-on, counting-enter, counted, counted-few, counted-past, counted-lost, counted-end}
+use Rattle.sheet_count.specs.Count.Code.{Counting, counting-first, counting-fits, round, counting-on, counting-enter, counted, counted-few, counted-past, counted-lost, counted-end}
 use native.Mathlib.Omega.{arith}
 use borrow.Author.Needs.{needs}
 use Rattle.sheet_count.proofs.count_from.Statement.{statement}
@@ -21,8 +21,8 @@ Inv-loop t x h d n counts starts high ats₀ room size count₀ held₀ g₀ s�
 abbrev μ-loop : tie.MeasureT-loop
 μ-loop t x h d n counts starts high ats₀ room size count₀ held₀ g₀ s₀ places₀ ats count held g s places = n - g
 
-wide-size-requires : tie.Need-wide-size-requires Inv-loop μ-loop
-wide-size-requires c κs = search needs
+usize-of-u8-requires : tie.Need-usize-of-u8-requires Inv-loop μ-loop
+usize-of-u8-requires c κs = search needs
 
 place-numbers-requires : tie.Need-place-numbers-requires Inv-loop μ-loop
 place-numbers-requires c κs = search needs
@@ -39,21 +39,21 @@ loop-holds c =
     (pre .1 .1 .1)
     (length-places _ ∙ ap length (c .place-numbers .ensures) ∙ length-numbers (args .from .places) ∙ r)
 
-wide-size-requires-2 : tie.Need-wide-size-requires-2 Inv-loop μ-loop
-wide-size-requires-2 c κs = search needs
+usize-of-u8-requires-2 : tie.Need-usize-of-u8-requires-2 Inv-loop μ-loop
+usize-of-u8-requires-2 c κs = search needs
 
-sub-fitting : tie.Need-sub-fitting Inv-loop μ-loop
-sub-fitting c =
+sub-slots-kept : tie.Need-sub-slots-kept Inv-loop μ-loop
+sub-slots-kept c =
     let loop = c .before .loop in
-    let wide-size = c .before .before .before .before .wide-size in
-    omega (arith, loop .inv .here .on .high, wide-size .ensures, c .wide-size2 .ensures)
+    let usize-of-u8 = c .before .before .before .before .usize-of-u8 in
+    omega (arith, loop .inv .here .on .high, usize-of-u8 .ensures, c .usize-of-u82 .ensures)
 
-fitting-requires : tie.Need-fitting-requires Inv-loop μ-loop
-fitting-requires c κs =
+slots-kept-requires : tie.Need-slots-kept-requires Inv-loop μ-loop
+slots-kept-requires c κs =
     let loop = c .before .loop in
-    let wide-size = c .before .before .before .before .wide-size in
+    let usize-of-u8 = c .before .before .before .before .usize-of-u8 in
     let pre = c .before .before .before .before .before .before .before .before .before .before .pre in
-    (omega (arith, loop .inv .fits, loop .inv .kept), omega (arith, pre .1 .1 .2, wide-size .ensures))
+    (omega (arith, loop .inv .fits, loop .inv .kept), omega (arith, pre .1 .1 .2, usize-of-u8 .ensures))
 
 slice-aggregate-gather : tie.Need-slice-aggregate-gather Inv-loop μ-loop
 slice-aggregate-gather c =
@@ -63,11 +63,11 @@ slice-aggregate-gather c =
 gather-requires : tie.Need-gather-requires Inv-loop μ-loop
 gather-requires c κs =
     let back = c .before .before in
-    let fitting = back .fitting in
-    let wide-size2 = back .before .wide-size2 in
+    let slots-kept = back .slots-kept in
+    let usize-of-u82 = back .before .usize-of-u82 in
     let loop = back .before .before .loop in
     let back = back .before .before .before .before .before in
-    let wide-size = back .wide-size in
+    let usize-of-u8 = back .usize-of-u8 in
     let walking = back .before .before .before .before .before .before .pre .0 in
     let starts = back .before .before .before .before .before .before .pre .1 .0 in (
       walking,
@@ -75,9 +75,9 @@ gather-requires c κs =
         starts,
         (
           loop .inv .here .on .inside,
-          omega (arith, loop .inv .here .on .high, wide-size2 .ensures),
+          omega (arith, loop .inv .here .on .high, usize-of-u82 .ensures),
           places-room _ (loop .inv .here .room),
-          omega (arith, fitting .ensures .1, wide-size .ensures, wide-size2 .ensures, loop .inv .here .on .high, loop .inv .kept),
+          omega (arith, slots-kept .ensures .1, usize-of-u8 .ensures, usize-of-u82 .ensures, loop .inv .here .on .high, loop .inv .kept),
         ),
       ),
     )
@@ -88,19 +88,19 @@ first-past-requires c κs =
     let gather = back .gather in
     let gather-ats-kept = back .gather .kept .1 .1 .1 .1 .1 .1 .1 .1 .1 .1 .1 .0 in
     let back = back .before .before .before in
-    let fitting = back .fitting in
+    let slots-kept = back .slots-kept in
     let loop = back .before .before .loop in
     let back = back .before .before .before .before .before in
-    let wide-size = back .wide-size in
+    let usize-of-u8 = back .usize-of-u8 in
     let pre = back .before .before .before .before .before .before .pre in
     let starts = back .before .before .before .before .before .before .pre .1 .0 in (
       gathered-within
           (starts .frame)
-          ((counting-fits (loop .inv) (sym (loop .inv .kept)) (omega (arith, pre .1 .1 .2, wide-size .ensures)) (fitting .ensures .0)) .within)
+          ((counting-fits (loop .inv) (sym (loop .inv .kept)) (omega (arith, pre .1 .1 .2, usize-of-u8 .ensures)) (slots-kept .ensures .0)) .within)
           (gather .ensures),
       (
         gather .ensures .least,
-        omega (arith, gather .ensures .few, gather .ensures .high, fitting .ensures .1, wide-size .ensures, loop .inv .kept, gather-ats-kept),
+        omega (arith, gather .ensures .few, gather .ensures .high, slots-kept .ensures .1, usize-of-u8 .ensures, loop .inv .kept, gather-ats-kept),
       ),
     )
 
@@ -113,30 +113,20 @@ add-count c =
     let gather = back .gather in
     let gather-ats-kept = back .gather .kept .1 .1 .1 .1 .1 .1 .1 .1 .1 .1 .1 .0 in
     let back = back .before .before .before in
-    let fitting = back .fitting in
-    let wide-size2 = back .before .wide-size2 in
+    let slots-kept = back .slots-kept in
+    let usize-of-u82 = back .before .usize-of-u82 in
     let back = back .before .before in
     let loop = back .loop in
     let back = back .before .before .before in
-    let wide-size = back .wide-size in
+    let usize-of-u8 = back .usize-of-u8 in
     let back = back .before .before .before .before .before .before in
     let fits = back .fits in
     let pre = back .pre in
     let starts = back .pre .1 .0 in
-    omega (
-      arith,
-      fits .d,
-      fits .n,
-      counted-few
-          (counting-fits (loop .inv) (sym (loop .inv .kept)) (omega (arith, pre .1 .1 .2, wide-size .ensures)) (fitting .ensures .0))
-          (starts .frame)
-          (wide-size2 .ensures)
-          (gather .ensures)
-          (omega (arith, gather .ensures .few, gather .ensures .high, fitting .ensures .1, wide-size .ensures, loop .inv .kept, gather-ats-kept))
-          gather-ats-kept
-          (c .first-past .ensures)
-          (omega (arith, fits .d, fits .n)),
-    )
+    let turn =
+    (round (loop .inv) (starts .frame) (usize-of-u8 .ensures) (usize-of-u82 .ensures) (pre .1 .1 .2) (slots-kept .ensures) (gather .ensures)
+    gather-ats-kept (c .first-past .ensures)) in
+    omega (arith, fits .d, fits .n, counted-few turn (omega (arith, fits .d, fits .n)))
 
 same-length : tie.Need-same-length Inv-loop μ-loop
 same-length c =
@@ -153,53 +143,37 @@ returns c =
     let gather = back .gather in
     let gather-ats-kept = back .gather .kept .1 .1 .1 .1 .1 .1 .1 .1 .1 .1 .1 .0 in
     let back = back .before .before .before in
-    let fitting = back .fitting in
+    let slots-kept = back .slots-kept in
     let back = back .before in
-    let wide-size2 = back .wide-size2 in
+    let usize-of-u82 = back .usize-of-u82 in
     let loop = back .before .loop in
     let back = back .before .before in
     let place-numbers = back .place-numbers in
     let back = back .before .before in
-    let wide-size = back .wide-size in
+    let usize-of-u8 = back .usize-of-u8 in
     let back = back .before .before .before .before .before .before in
     let args = back .args in
     let fits = back .fits in
     let pre = back .pre in
     let walking = back .pre .0 in
-    let starts = back .pre .1 .0 in (
-      counted
-          (counting-fits (loop .inv) (sym (loop .inv .kept)) (omega (arith, pre .1 .1 .2, wide-size .ensures)) (fitting .ensures .0))
-          (starts .frame)
-          (wide-size2 .ensures)
-          (gather .ensures)
-          (omega (arith, gather .ensures .few, gather .ensures .high, fitting .ensures .1, wide-size .ensures, loop .inv .kept, gather-ats-kept))
-          gather-ats-kept
-          (first-past .ensures)
-          _
-          (counted-past (counting-fits (loop .inv) (sym (loop .inv .kept)) (omega (arith, pre .1 .1 .2, wide-size .ensures)) (fitting .ensures .0))
-          (starts .frame) (wide-size2 .ensures) (gather .ensures)
-          (omega (arith, gather .ensures .few, gather .ensures .high, fitting .ensures .1, wide-size .ensures, loop .inv .kept, gather-ats-kept))
-          gather-ats-kept (first-past .ensures) (c .if1 .taken)
+    let starts = back .pre .1 .0 in
+    let turn =
+    (round (loop .inv) (starts .frame) (usize-of-u8 .ensures) (usize-of-u82 .ensures) (pre .1 .1 .2) (slots-kept .ensures) (gather .ensures)
+    gather-ats-kept (first-past .ensures)) in (
+      counted turn _
+          (counted-past turn (c .if1 .taken)
           ∙ onward-same _ _ _ _ _ _ _ _ (args .from .places) _ (place-numbers .ensures)
           ∙ onward-from walking (sheetVisit _ _) (args .from) _ refl (pre .1 .1 .0))
           refl refl,
-      counted-few
-          (counting-fits (loop .inv) (sym (loop .inv .kept)) (omega (arith, pre .1 .1 .2, wide-size .ensures)) (fitting .ensures .0))
-          (starts .frame)
-          (wide-size2 .ensures)
-          (gather .ensures)
-          (omega (arith, gather .ensures .few, gather .ensures .high, fitting .ensures .1, wide-size .ensures, loop .inv .kept, gather-ats-kept))
-          gather-ats-kept
-          (first-past .ensures)
-          (omega (arith, fits .d, fits .n)),
+      counted-few turn (omega (arith, fits .d, fits .n)),
     )
 
 cast-t34 : tie.Need-cast-t34 Inv-loop μ-loop
 cast-t34 c =
     let back = c .before .before .before .before .before .before .before .before .before .before .before .before .before .before .before in
-    let wide-size = back .wide-size in
+    let usize-of-u8 = back .usize-of-u8 in
     let fits = back .before .before .before .before .before .before .fits in
-    omega (arith, fits .d, fits .n, c .if2 .taken, wide-size .ensures)
+    omega (arith, fits .d, fits .n, c .if2 .taken, usize-of-u8 .ensures)
 
 same-length-2 : tie.Need-same-length-2 Inv-loop μ-loop
 same-length-2 c =
@@ -218,45 +192,29 @@ returns-2 c =
     let gather = back .gather in
     let gather-ats-kept = back .gather .kept .1 .1 .1 .1 .1 .1 .1 .1 .1 .1 .1 .0 in
     let back = back .before .before .before in
-    let fitting = back .fitting in
+    let slots-kept = back .slots-kept in
     let back = back .before in
-    let wide-size2 = back .wide-size2 in
+    let usize-of-u82 = back .usize-of-u82 in
     let loop = back .before .loop in
     let back = back .before .before in
     let place-numbers = back .place-numbers in
     let back = back .before .before in
-    let wide-size = back .wide-size in
+    let usize-of-u8 = back .usize-of-u8 in
     let back = back .before .before .before .before .before .before in
     let args = back .args in
     let fits = back .fits in
     let pre = back .pre in
     let walking = back .pre .0 in
-    let starts = back .pre .1 .0 in (
-      counted
-          (counting-fits (loop .inv) (sym (loop .inv .kept)) (omega (arith, pre .1 .1 .2, wide-size .ensures)) (fitting .ensures .0))
-          (starts .frame)
-          (wide-size2 .ensures)
-          (gather .ensures)
-          (omega (arith, gather .ensures .few, gather .ensures .high, fitting .ensures .1, wide-size .ensures, loop .inv .kept, gather-ats-kept))
-          gather-ats-kept
-          (first-past .ensures)
-          _
-          (counted-lost (counting-fits (loop .inv) (sym (loop .inv .kept)) (omega (arith, pre .1 .1 .2, wide-size .ensures)) (fitting .ensures .0))
-          (starts .frame) (wide-size2 .ensures) (gather .ensures)
-          (omega (arith, gather .ensures .few, gather .ensures .high, fitting .ensures .1, wide-size .ensures, loop .inv .kept, gather-ats-kept))
-          gather-ats-kept (first-past .ensures) (if1 .left) (omega (arith, c .if2 .taken, wide-size .ensures))
+    let starts = back .pre .1 .0 in
+    let turn =
+    (round (loop .inv) (starts .frame) (usize-of-u8 .ensures) (usize-of-u82 .ensures) (pre .1 .1 .2) (slots-kept .ensures) (gather .ensures)
+    gather-ats-kept (first-past .ensures)) in (
+      counted turn _
+          (counted-lost turn (if1 .left) (omega (arith, c .if2 .taken, usize-of-u8 .ensures))
           ∙ onward-same _ _ _ _ _ _ _ _ (args .from .places) _ (place-numbers .ensures)
           ∙ onward-from walking (sheetVisit _ _) (args .from) _ refl (pre .1 .1 .0))
           refl refl,
-      counted-few
-          (counting-fits (loop .inv) (sym (loop .inv .kept)) (omega (arith, pre .1 .1 .2, wide-size .ensures)) (fitting .ensures .0))
-          (starts .frame)
-          (wide-size2 .ensures)
-          (gather .ensures)
-          (omega (arith, gather .ensures .few, gather .ensures .high, fitting .ensures .1, wide-size .ensures, loop .inv .kept, gather-ats-kept))
-          gather-ats-kept
-          (first-past .ensures)
-          (omega (arith, fits .d, fits .n)),
+      counted-few turn (omega (arith, fits .d, fits .n)),
     )
 
 add-g : tie.Need-add-g Inv-loop μ-loop
@@ -286,45 +244,29 @@ returns-3 c =
     let gather = back .gather in
     let gather-ats-kept = back .gather .kept .1 .1 .1 .1 .1 .1 .1 .1 .1 .1 .1 .0 in
     let back = back .before .before .before in
-    let fitting = back .fitting in
+    let slots-kept = back .slots-kept in
     let back = back .before in
-    let wide-size2 = back .wide-size2 in
+    let usize-of-u82 = back .usize-of-u82 in
     let loop = back .before .loop in
     let back = back .before .before in
     let place-numbers = back .place-numbers in
     let back = back .before .before in
-    let wide-size = back .wide-size in
+    let usize-of-u8 = back .usize-of-u8 in
     let back = back .before .before .before .before .before .before in
     let args = back .args in
     let fits = back .fits in
     let pre = back .pre in
     let walking = back .pre .0 in
-    let starts = back .pre .1 .0 in (
-      counted
-          (counting-fits (loop .inv) (sym (loop .inv .kept)) (omega (arith, pre .1 .1 .2, wide-size .ensures)) (fitting .ensures .0))
-          (starts .frame)
-          (wide-size2 .ensures)
-          (gather .ensures)
-          (omega (arith, gather .ensures .few, gather .ensures .high, fitting .ensures .1, wide-size .ensures, loop .inv .kept, gather-ats-kept))
-          gather-ats-kept
-          (first-past .ensures)
-          _
-          (counted-end (counting-fits (loop .inv) (sym (loop .inv .kept)) (omega (arith, pre .1 .1 .2, wide-size .ensures)) (fitting .ensures .0))
-          (starts .frame) (wide-size2 .ensures) (gather .ensures)
-          (omega (arith, gather .ensures .few, gather .ensures .high, fitting .ensures .1, wide-size .ensures, loop .inv .kept, gather-ats-kept))
-          gather-ats-kept (first-past .ensures) (if1 .left) (omega (arith, if2 .left, wide-size .ensures)) (c .if3 .taken)
+    let starts = back .pre .1 .0 in
+    let turn =
+    (round (loop .inv) (starts .frame) (usize-of-u8 .ensures) (usize-of-u82 .ensures) (pre .1 .1 .2) (slots-kept .ensures) (gather .ensures)
+    gather-ats-kept (first-past .ensures)) in (
+      counted turn _
+          (counted-end turn (if1 .left) (omega (arith, if2 .left, usize-of-u8 .ensures)) (c .if3 .taken)
           ∙ onward-same _ _ _ _ _ _ _ _ (args .from .places) _ (place-numbers .ensures)
           ∙ onward-from walking (sheetVisit _ _) (args .from) _ refl (pre .1 .1 .0))
           refl refl,
-      counted-few
-          (counting-fits (loop .inv) (sym (loop .inv .kept)) (omega (arith, pre .1 .1 .2, wide-size .ensures)) (fitting .ensures .0))
-          (starts .frame)
-          (wide-size2 .ensures)
-          (gather .ensures)
-          (omega (arith, gather .ensures .few, gather .ensures .high, fitting .ensures .1, wide-size .ensures, loop .inv .kept, gather-ats-kept))
-          gather-ats-kept
-          (first-past .ensures)
-          (omega (arith, fits .d, fits .n)),
+      counted-few turn (omega (arith, fits .d, fits .n)),
     )
 
 segment-at-requires : tie.Need-segment-at-requires Inv-loop μ-loop
@@ -364,22 +306,22 @@ loop-again c =
     let gather = back .gather in
     let gather-ats-kept = back .gather .kept .1 .1 .1 .1 .1 .1 .1 .1 .1 .1 .1 .0 in
     let back = back .before .before .before in
-    let fitting = back .fitting in
-    let wide-size2 = back .before .wide-size2 in
+    let slots-kept = back .slots-kept in
+    let usize-of-u82 = back .before .usize-of-u82 in
     let back = back .before .before in
     let loop = back .loop in
     let back = back .before .before .before in
-    let wide-size = back .wide-size in
+    let usize-of-u8 = back .usize-of-u8 in
     let back = back .before .before .before .before .before .before in
     let fits = back .fits in
     let pre = back .pre in
     let walking = back .pre .0 in
     let starts = back .pre .1 .0 in
+    let turn =
+    (round (loop .inv) (starts .frame) (usize-of-u8 .ensures) (usize-of-u82 .ensures) (pre .1 .1 .2) (slots-kept .ensures) (gather .ensures)
+    gather-ats-kept (first-past .ensures)) in
     counting-enter
-    (counting-on (counting-fits (loop .inv) (sym (loop .inv .kept)) (omega (arith, pre .1 .1 .2, wide-size .ensures)) (fitting .ensures .0))
-    (starts .frame) (wide-size2 .ensures) (gather .ensures)
-    (omega (arith, gather .ensures .few, gather .ensures .high, fitting .ensures .1, wide-size .ensures, loop .inv .kept, gather-ats-kept))
-    gather-ats-kept (first-past .ensures) (if1 .left) (omega (arith, if2 .left, wide-size .ensures)) refl)
+    (counting-on turn (if1 .left) (omega (arith, if2 .left, usize-of-u8 .ensures)) refl)
     walking
     (omega (arith, fits .d))
     (omega arith)
@@ -393,12 +335,12 @@ count-from-spec =
     (tie.spec
     Inv-loop
     μ-loop
-    wide-size-requires
+    usize-of-u8-requires
     place-numbers-requires
     loop-holds
-    wide-size-requires-2
-    sub-fitting
-    fitting-requires
+    usize-of-u8-requires-2
+    sub-slots-kept
+    slots-kept-requires
     slice-aggregate-gather
     gather-requires
     first-past-requires

@@ -1,5 +1,4 @@
--- `sheet_count::first_past` meets its contract. Invariant: all keys before this one are below the bound. Measure: the records left. Assumes
--- nothing.
+-- `sheet_count::first_past` meets its contract. Invariant: all keys before this one are below the bound. Measure: the records left.
 use mathlib.Core.Path.{refl}
 use Prim.Native.Nat.{_-_}
 use Rattle.list.specs.Stops.Laws.{within-at}

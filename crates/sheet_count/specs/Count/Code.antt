@@ -1,11 +1,11 @@
 -- What the code of the count needs of the definitions.
 --     Seeking, seeking-first, seeking-more, past-here, past-end     the loop that looks for the bound
---     fitting-none, fitting-held                                    whether there is room to remember more
+--     slots-kept-none, slots-kept-held                                    whether there is room to remember more
 --     tour-below, tour-past                                         what sheet does at a segment's stops
 --     Counting, counting-first, counting-fits                       the loop over segments
---     counted-past, counted-lost, counted-end, counting-on          its turn: at the bound, lost, at the end, behind the segment
+--     Round, round                                                  its turn
+--     counted-past, counted-lost, counted-end, counting-on          where it comes to: at the bound, lost, at the end, after the segment
 --     counted, counted-few, counting-enter                          its ends, and the next segment
--- Assumes nothing.
 use mathlib.Core.Path.{_≡_, refl, sym, ap, ap₂, _∙_, subst}
 use Prim.Native.Nat.{ℕ, zero, suc, _+_, _-_, _*_, _≤_, _<_}
 use native.Mathlib.Nat.{add-zero}
@@ -30,7 +30,7 @@ use Rattle.walk.specs.Reads.{unmarked, sheetVisit}
 use Rattle.walk.specs.Code.{numbers, Walking}
 use Rattle.walk.specs.Code.Load.{loadedFrom}
 use Rattle.walk.specs.Code.Turns.{Here, here-enter}
-use Rattle.list.specs.Stops.{Stop, stopsIn, positionOf, Within, GatheredFrom}
+use Rattle.list.specs.Stops.{NamedStop, stopsIn, positionOf, Within, GatheredFrom}
 use Rattle.list.specs.Stops.Laws.{seenAt, thenOn, then-lost, then-rest, walk-stops, record-part, Right, stops-right, within-none, within-take, gathered-within}
 use Rattle.list.specs.Steps.{onward, here-first}
 use Rattle.sheet_count.specs.declared.Counted.{Counted}
@@ -75,11 +75,11 @@ module _ {t ats : List ℕ} {from to high i : ℕ} (s : Seeking t ats from to hi
       record { least = omega arith; most = omega arith; below = λ j a b. s .below j a (omega arith); past = λ k. absurd (omega arith) }
 
 -- there is no room for more, or there is
-pub fitting-none : {held more room : ℕ} → held ≤ room → more ≤ room → room - held < more → (0 ≡ cond (leb (held + more) room) held 0) × (0 + more ≤ room)
-fitting-none {held} {more} {room} l m b = (sym (rw (lt-leb (held + more) room (omega arith))), omega arith)
+pub slots-kept-none : {held more room : ℕ} → held ≤ room → more ≤ room → room - held < more → (0 ≡ cond (leb (held + more) room) held 0) × (0 + more ≤ room)
+slots-kept-none {held} {more} {room} l m b = (sym (rw (lt-leb (held + more) room (omega arith))), omega arith)
 
-pub fitting-held : {held more room : ℕ} → held ≤ room → more ≤ room - held → (held ≡ cond (leb (held + more) room) held 0) × (held + more ≤ room)
-fitting-held {held} {more} {room} l b = (sym (rw (le-leb (held + more) room (omega arith))), omega arith)
+pub slots-kept-held : {held more room : ℕ} → held ≤ room → more ≤ room - held → (held ≡ cond (leb (held + more) room) held 0) × (held + more ≤ room)
+slots-kept-held {held} {more} {room} l b = (sym (rw (le-leb (held + more) room (omega arith))), omega arith)
 
 module _ (t : List ℕ) (high : ℕ) where
   -- marked records are passed,
@@ -87,7 +87,7 @@ module _ (t : List ℕ) (high : ℕ) where
   unfolding sheetVisit
   sheet-passes v c es u = rw u
 
-  module _ {p : Stop} (r : Right t p) (es : List Record) where
+  module _ {p : NamedStop} (r : Right t p) (es : List Record) where
     -- the record of a stop is listed where its key is below the bound,
     sheet-one : recordFrom t (positionOf t p) .key < high → sheetVisit t high (p .selector) (p .spot) es ≡ go (es ++ (recordFrom t (positionOf t p) ∷ []))
     unfolding sheetVisit
@@ -100,7 +100,7 @@ module _ (t : List ℕ) (high : ℕ) where
 
   module _ (rest : List Record → Walked (List Record) (List Record)) where
     -- all are below the bound,
-    tour-below : (ps : List Stop) → All (Right t) ps → (es : List Record) → ((i : ℕ) → i < length ps → recordFrom t (getD (map (positionOf t) ps) i 0) .key < high)
+    tour-below : (ps : List NamedStop) → All (Right t) ps → (es : List Record) → ((i : ℕ) → i < length ps → recordFrom t (getD (map (positionOf t) ps) i 0) .key < high)
         → tourThen (seenAt (sheetVisit t high)) ps es rest ≡ rest (es ++ map (recordFrom t) (map (positionOf t) ps))
     unfolding tourThen after
     tour-below [] r es below = ap rest (sym (append-nil es))
@@ -112,7 +112,7 @@ module _ (t : List ℕ) (high : ℕ) where
         ∙ ap rest (append-snoc es e later)
 
     -- or one is the first that is not
-    tour-past : (ps : List Stop) → All (Right t) ps → (es : List Record) (j : ℕ) → j < length ps
+    tour-past : (ps : List NamedStop) → All (Right t) ps → (es : List Record) (j : ℕ) → j < length ps
         → ((i : ℕ) → i < j → recordFrom t (getD (map (positionOf t) ps) i 0) .key < high) → high ≤ recordFrom t (getD (map (positionOf t) ps) j 0) .key
         → tourThen (seenAt (sheetVisit t high)) ps es rest ≡ stayed (es ++ map (recordFrom t) (take j (map (positionOf t) ps)))
     unfolding tourThen after
@@ -198,165 +198,198 @@ module _ {t x : List ℕ} {high d n g₀ s₀ : ℕ} {places₀ : List Place} {a
         whole = i .whole;
       }
 
-  module _ (framed : Framed t) {q : ℕ} (e : q ≡ s) {k stop : ℕ} {ats′ : List ℕ} (f : GatheredFrom t x d g q places held ats k stop ats′) (long : k ≤ length ats′) (same : length ats′ ≡ length ats)
-      {p : ℕ} (found : Past t ats′ held k high p) where
-    abbrev rest : List Record → Walked (List Record) (List Record)
-    rest = walkSegments t x (sheetVisit t high) (n - (g + 1)) (g + 1)
+-- A turn of the loop: a segment is gathered after what is remembered, and p is the first of its records at or above the bound.
+pub record Round (t x : List ℕ) (high d n g₀ s₀ : ℕ) (places₀ : List Place) (ats₀ : List ℕ) (g s : ℕ) (places : List Place) (count held : ℕ)
+    (ats : List ℕ) (k stop : ℕ) (ats′ : List ℕ) (p : ℕ) : Type 0 where
+  pub counting : Counting t x high d n g₀ s₀ places₀ ats₀ g s places count held ats
+  pub framed : Framed t
+  pub from : GatheredFrom t x d g s places held ats k stop ats′
+  pub long : k ≤ length ats′
+  pub same : length ats′ ≡ length ats
+  pub found : Past t ats′ held k high p
 
-    abbrev stops : List Stop
-    stops = stopsIn t x (d - s) g s (numbers places)
+-- as the code makes it: `before` of what was remembered is kept, as many as leave room for the segment
+pub round : {t x : List ℕ} {high d n g₀ s₀ : ℕ} {places₀ : List Place} {ats₀ : List ℕ} {g s : ℕ} {places : List Place} {count held : ℕ} {ats : List ℕ}
+    {size at before k stop p : ℕ} {ats′ : List ℕ} → Counting t x high d n g₀ s₀ places₀ ats₀ g s places count held ats → Framed t → size ≡ d → at ≡ s → d ≤ length ats₀
+    → (before ≡ cond (leb (held + (size - at)) (length ats₀)) held 0) × (before + (size - at) ≤ length ats₀)
+    → GatheredFrom t x d g at places before ats k stop ats′ → length ats′ ≡ length ats → Past t ats′ before k high p
+    → Round t x high d n g₀ s₀ places₀ ats₀ g s places count before ats k stop ats′ p
+round {t} {x} {d = d} {g = g} {places = places} {ats = ats} {size} {at} {before} {k} {stop} {ats′ = ats′} i framed e q l slots f same found =
+    record {
+      counting = counting-fits i (sym (i .kept)) (omega arith) (slots .0);
+      framed = framed;
+      from = subst (λ (b : ℕ). GatheredFrom t x d g b places before ats k stop ats′) q f;
+      long = omega (arith, f .few, f .high, slots .1, i .kept);
+      same = same;
+      found = found;
+    }
 
-    from : GatheredFrom t x d g s places held ats k stop ats′
-    from = subst (λ (b : ℕ). GatheredFrom t x d g b places held ats k stop ats′) e f
+module _ {t x : List ℕ} {high d n g₀ s₀ : ℕ} {places₀ : List Place} {ats₀ : List ℕ} {g s : ℕ} {places : List Place} {count held : ℕ} {ats : List ℕ}
+    {k stop : ℕ} {ats′ : List ℕ} {p : ℕ} (o : Round t x high d n g₀ s₀ places₀ ats₀ g s places count held ats k stop ats′ p) where
+  abbrev i : Counting t x high d n g₀ s₀ places₀ ats₀ g s places count held ats
+  i = o .counting
 
-    -- how many of the stops' records are below the bound
-    abbrev fresh : ℕ
-    fresh = p - held
+  abbrev from : GatheredFrom t x d g s places held ats k stop ats′
+  from = o .from
 
-    some : length (take held ats) ≡ held
-    some = length-take-le held ats (i .fits)
+  abbrev found : Past t ats′ held k high p
+  found = o .found
 
-    stop-count : held + length stops ≡ k
-    stop-count =
-        ap₂ (λ (a b : ℕ). a + b) (sym some) (sym (length-map stops (positionOf t)))
-        ∙ sym (length-append (take held ats) (map (positionOf t) stops))
-        ∙ ap length (sym (from .same))
-        ∙ length-take-le k ats′ long
+  abbrev rest : List Record → Walked (List Record) (List Record)
+  rest = walkSegments t x (sheetVisit t high) (n - (g + 1)) (g + 1)
 
-    -- a stop's record among those remembered
-    at-stop : (j : ℕ) → j < length stops → getD ats′ (held + j) 0 ≡ getD (map (positionOf t) stops) j 0
-    at-stop j l =
-        sym (getD-take k ats′ (held + j) 0 (omega (arith, stop-count)))
-        ∙ ap (λ (zs : List ℕ). getD zs (held + j) 0) (from .same)
-        ∙ ap (λ (b : ℕ). getD (take held ats ++ map (positionOf t) stops) (b + j) 0) (sym some)
-        ∙ getD-append-add (take held ats) (map (positionOf t) stops) j 0
+  abbrev stops : List NamedStop
+  stops = stopsIn t x (d - s) g s (numbers places)
 
-    -- what is remembered then
-    now-held : take p ats′ ≡ take held ats ++ take fresh (map (positionOf t) stops)
-    now-held =
-        let most = found .most in
-        let least = found .least in
-        let z : p ≡ held + fresh = omega arith in
-        sym (take-take p k ats′ most)
-        ∙ ap (take p) (from .same)
-        ∙ ap (λ (b : ℕ). take b (take held ats ++ map (positionOf t) stops)) (z ∙ ap (λ (b : ℕ). b + fresh) (sym some))
-        ∙ take-append-add (take held ats) (map (positionOf t) stops) fresh
+  -- how many of the stops' records are below the bound
+  abbrev fresh : ℕ
+  fresh = p - held
 
-    -- the records then
-    abbrev more : List Record
-    more = i .records ++ map (recordFrom t) (take fresh (map (positionOf t) stops))
+  some : length (take held ats) ≡ held
+  some = length-take-le held ats (i .fits)
 
-    more-many : length more ≡ count + fresh
-    more-many =
-        let most = found .most in
-        let least = found .least in
-        let m : length (take fresh (map (positionOf t) stops)) ≡ fresh =
-        length-take-le fresh (map (positionOf t) stops) (omega (arith, stop-count, length-map stops (positionOf t))) in
-        length-append (i .records) (map (recordFrom t) (take fresh (map (positionOf t) stops)))
-        ∙ ap₂ (λ (a b : ℕ). a + b) (i .many) (length-map (take fresh (map (positionOf t) stops)) (recordFrom t) ∙ m)
+  stop-count : held + length stops ≡ k
+  stop-count =
+      ap₂ (λ (a b : ℕ). a + b) (sym some) (sym (length-map stops (positionOf t)))
+      ∙ sym (length-append (take held ats) (map (positionOf t) stops))
+      ∙ ap length (sym (from .same))
+      ∙ length-take-le k ats′ (o .long)
 
-    more-whole : p ≡ count + fresh → more ≡ map (recordFrom t) (take p ats′)
-    more-whole y =
-        let least = found .least in
-        let z : held ≡ count = omega arith in
-        ap (λ (es : List Record). es ++ map (recordFrom t) (take fresh (map (positionOf t) stops))) (i .whole z)
-        ∙ sym (map-append (recordFrom t) (take held ats) (take fresh (map (positionOf t) stops)))
-        ∙ ap (map (recordFrom t)) (sym now-held)
+  -- a stop's record among those remembered
+  at-stop : (j : ℕ) → j < length stops → getD ats′ (held + j) 0 ≡ getD (map (positionOf t) stops) j 0
+  at-stop j l =
+      sym (getD-take k ats′ (held + j) 0 (omega (arith, stop-count)))
+      ∙ ap (λ (zs : List ℕ). getD zs (held + j) 0) (from .same)
+      ∙ ap (λ (b : ℕ). getD (take held ats ++ map (positionOf t) stops) (b + j) 0) (sym some)
+      ∙ getD-append-add (take held ats) (map (positionOf t) stops) j 0
 
-    more-within : Within t (take p ats′)
-    more-within = within-take p k ats′ (found .most) (gathered-within framed (i .within) f)
+  -- what is remembered then
+  now-held : take p ats′ ≡ take held ats ++ take fresh (map (positionOf t) stops)
+  now-held =
+      let most = found .most in
+      let least = found .least in
+      let z : p ≡ held + fresh = omega arith in
+      sym (take-take p k ats′ most)
+      ∙ ap (take p) (from .same)
+      ∙ ap (λ (b : ℕ). take b (take held ats ++ map (positionOf t) stops)) (z ∙ ap (λ (b : ℕ). b + fresh) (sym some))
+      ∙ take-append-add (take held ats) (map (positionOf t) stops) fresh
 
-    rights : All (Right t) stops
-    rights = stops-right t framed x (d - s) g s (numbers places)
+  -- the records then
+  abbrev more : List Record
+  more = i .records ++ map (recordFrom t) (take fresh (map (positionOf t) stops))
 
-    below : (j : ℕ) → j < fresh → recordFrom t (getD (map (positionOf t) stops) j 0) .key < high
-    below j l =
-        let most = found .most in
-        subst (λ (a : ℕ). recordFrom t a .key < high) (at-stop j (omega (arith, stop-count))) (found .below (held + j) (omega arith) (omega arith))
+  more-many : length more ≡ count + fresh
+  more-many =
+      let most = found .most in
+      let least = found .least in
+      let m : length (take fresh (map (positionOf t) stops)) ≡ fresh =
+      length-take-le fresh (map (positionOf t) stops) (omega (arith, stop-count, length-map stops (positionOf t))) in
+      length-append (i .records) (map (recordFrom t) (take fresh (map (positionOf t) stops)))
+      ∙ ap₂ (λ (a b : ℕ). a + b) (i .many) (length-map (take fresh (map (positionOf t) stops)) (recordFrom t) ∙ m)
 
-    -- sheet's walk at the stops
-    walks : walkSelectors t x (sheetVisit t high) (d - s) g s (numbers places) (i .records) rest ≡ tourThen (seenAt (sheetVisit t high)) stops (i .records) (thenOn rest g stop d)
-    walks =
-        let end = i .here .on .high in
-        walk-stops t x (sheetVisit t high) (sheet-passes t high) rest (d - s) g s (numbers places) (i .records) {end = d} (omega arith)
-        ∙ ap (λ (b : ℕ). tourThen (seenAt (sheetVisit t high)) stops (i .records) (thenOn rest g b d)) (sym (from .stops))
+  more-whole : p ≡ count + fresh → more ≡ map (recordFrom t) (take p ats′)
+  more-whole y =
+      let least = found .least in
+      let z : held ≡ count = omega arith in
+      ap (λ (es : List Record). es ++ map (recordFrom t) (take fresh (map (positionOf t) stops))) (i .whole z)
+      ∙ sym (map-append (recordFrom t) (take held ats) (take fresh (map (positionOf t) stops)))
+      ∙ ap (map (recordFrom t)) (sym now-held)
 
-    -- it stays at the bound,
-    pub counted-past : p < k → stayed more ≡ onward t x (sheetVisit t high) d n g₀ s₀ places₀ []
-    counted-past l =
-        let least = found .least in
-        let z : held + fresh ≡ p = omega arith in
-        let over : high ≤ recordFrom t (getD (map (positionOf t) stops) fresh 0) .key =
-        subst (λ (a : ℕ). high ≤ recordFrom t a .key) (ap (λ (b : ℕ). getD ats′ b 0) (sym z) ∙ at-stop fresh (omega (arith, stop-count))) (found .past l) in
-        sym (walks ∙ tour-past t high (thenOn rest g stop d) stops rights (i .records) fresh (omega (arith, stop-count)) below over) ∙ i .here .on .same
+  more-within : Within t (take p ats′)
+  more-within = within-take p k ats′ (found .most) (gathered-within (o .framed) (i .within) from)
 
-    -- or passes all stops,
-    behind : k ≤ p → walkSelectors t x (sheetVisit t high) (d - s) g s (numbers places) (i .records) rest ≡ thenOn rest g stop d more
-    behind l =
-        let most = found .most in
-        let z : fresh ≡ length stops = omega (arith, stop-count) in
-        walks
-        ∙ tour-below t high (thenOn rest g stop d) stops rights (i .records) (λ j b. below j (omega arith))
-        ∙ ap (λ (bs : List ℕ). thenOn rest g stop d (i .records ++ map (recordFrom t) bs))
-        (sym (take-all fresh (map (positionOf t) stops) (omega (arith, z, length-map stops (positionOf t)))))
+  rights : All (Right t) stops
+  rights = stops-right t (o .framed) x (d - s) g s (numbers places)
 
-    -- is lost,
-    pub counted-lost : k ≤ p → stop < d → lost g stop more ≡ onward t x (sheetVisit t high) d n g₀ s₀ places₀ []
-    counted-lost l b = sym (then-lost rest g stop d more b) ∙ sym (behind l) ∙ i .here .on .same
+  below : (j : ℕ) → j < fresh → recordFrom t (getD (map (positionOf t) stops) j 0) .key < high
+  below j l =
+      let most = found .most in
+      subst (λ (a : ℕ). recordFrom t a .key < high) (at-stop j (omega (arith, stop-count))) (found .below (held + j) (omega arith) (omega arith))
 
-    -- comes to the end,
-    pub counted-end : k ≤ p → d ≤ stop → n ≤ g + 1 → ended more ≡ onward t x (sheetVisit t high) d n g₀ s₀ places₀ []
-    unfolding walkSegments
-    counted-end l b c =
-        let z : n - (g + 1) ≡ 0 = omega arith in
-        ap (λ (m : ℕ). walkSegments t x (sheetVisit t high) m (g + 1) more) (sym z) ∙ sym (then-rest rest g stop d more b) ∙ sym (behind l) ∙ i .here .on .same
+  -- sheet's walk at the stops
+  walks : walkSelectors t x (sheetVisit t high) (d - s) g s (numbers places) (i .records) rest ≡ tourThen (seenAt (sheetVisit t high)) stops (i .records) (thenOn rest g stop d)
+  walks =
+      let end = i .here .on .high in
+      walk-stops t x (sheetVisit t high) (sheet-passes t high) rest (d - s) g s (numbers places) (i .records) {end = d} (omega arith)
+      ∙ ap (λ (b : ℕ). tourThen (seenAt (sheetVisit t high)) stops (i .records) (thenOn rest g b d)) (sym (from .stops))
 
-    -- or goes on behind the segment
-    pub counting-on : k ≤ p → d ≤ stop → {count′ : ℕ} → count′ ≡ count + (p - held) → Counting t x high d n g₀ s₀ places₀ ats₀ g d places count′ p ats′
-    unfolding walkSelectors
-    counting-on l b {count′} c =
-        let most = found .most in
-        let least = found .least in
-        let less = i .less in
-        let gathered = from .few in
-        let end = from .high in
-        let few = i .few in
-        let z : d - d ≡ 0 = omega arith in
-        record {
-          records = more;
-          here =
-              record {
-                room = i .here .room;
-                on = record { inside = i .here .on .inside; high = omega arith; same = rw z (sym (then-rest rest g stop d more b) ∙ sym (behind l) ∙ i .here .on .same) };
-              };
-          many = more-many ∙ sym c;
-          few = omega arith;
-          less = omega arith;
-          fits = omega arith;
-          kept = same ∙ i .kept;
-          within = more-within;
-          whole = λ y. more-whole (y ∙ c);
-        }
+  -- it stays at the bound,
+  pub counted-past : p < k → stayed more ≡ onward t x (sheetVisit t high) d n g₀ s₀ places₀ []
+  counted-past l =
+      let least = found .least in
+      let z : held + fresh ≡ p = omega arith in
+      let over : high ≤ recordFrom t (getD (map (positionOf t) stops) fresh 0) .key =
+      subst (λ (a : ℕ). high ≤ recordFrom t a .key) (ap (λ (b : ℕ). getD ats′ b 0) (sym z) ∙ at-stop fresh (omega (arith, stop-count))) (found .past l) in
+      sym (walks ∙ tour-past t high (thenOn rest g stop d) stops rights (i .records) fresh (omega (arith, stop-count)) below over) ∙ i .here .on .same
 
-    -- at most one record a selector is counted then
-    pub counted-few : d < 256 → count + (p - held) ≤ 256 * n
-    counted-few b =
-        let few = i .few in
-        let gathered = from .few in
-        let end = from .high in
-        let most = found .most in
-        let inside = i .here .on .inside in
-        omega arith
+  -- or passes all stops,
+  behind : k ≤ p → walkSelectors t x (sheetVisit t high) (d - s) g s (numbers places) (i .records) rest ≡ thenOn rest g stop d more
+  behind l =
+      let most = found .most in
+      let z : fresh ≡ length stops = omega (arith, stop-count) in
+      walks
+      ∙ tour-below t high (thenOn rest g stop d) stops rights (i .records) (λ j b. below j (omega arith))
+      ∙ ap (λ (bs : List ℕ). thenOn rest g stop d (i .records ++ map (recordFrom t) bs))
+      (sym (take-all fresh (map (positionOf t) stops) (omega (arith, z, length-map stops (positionOf t)))))
 
-    -- what a count that stops here says
-    pub counted : {walk : Walked (List Record) (List Record)} (r : Counted) → countedAs (r .stop) more ≡ walk → r .count ≡ count + (p - held) → r .held ≡ p → Counts t walk r ats′
-    counted r says c y =
-        let most = found .most in
-        record {
-          records = more;
-          same = says;
-          many = more-many ∙ sym c;
-          held = omega arith;
-          within = subst (λ (b : ℕ). Within t (take b ats′)) (sym y) more-within;
-          whole = λ w. more-whole (sym y ∙ w ∙ c) ∙ ap (λ (b : ℕ). map (recordFrom t) (take b ats′)) (sym y);
-        }
+  -- is lost,
+  pub counted-lost : k ≤ p → stop < d → lost g stop more ≡ onward t x (sheetVisit t high) d n g₀ s₀ places₀ []
+  counted-lost l b = sym (then-lost rest g stop d more b) ∙ sym (behind l) ∙ i .here .on .same
+
+  -- comes to the end,
+  pub counted-end : k ≤ p → d ≤ stop → n ≤ g + 1 → ended more ≡ onward t x (sheetVisit t high) d n g₀ s₀ places₀ []
+  unfolding walkSegments
+  counted-end l b c =
+      let z : n - (g + 1) ≡ 0 = omega arith in
+      ap (λ (m : ℕ). walkSegments t x (sheetVisit t high) m (g + 1) more) (sym z) ∙ sym (then-rest rest g stop d more b) ∙ sym (behind l) ∙ i .here .on .same
+
+  -- or goes on after the segment
+  pub counting-on : k ≤ p → d ≤ stop → {count′ : ℕ} → count′ ≡ count + (p - held) → Counting t x high d n g₀ s₀ places₀ ats₀ g d places count′ p ats′
+  unfolding walkSelectors
+  counting-on l b {count′} c =
+      let most = found .most in
+      let least = found .least in
+      let less = i .less in
+      let gathered = from .few in
+      let end = from .high in
+      let few = i .few in
+      let long = o .long in
+      let z : d - d ≡ 0 = omega arith in
+      record {
+        records = more;
+        here =
+            record {
+              room = i .here .room;
+              on = record { inside = i .here .on .inside; high = omega arith; same = rw z (sym (then-rest rest g stop d more b) ∙ sym (behind l) ∙ i .here .on .same) };
+            };
+        many = more-many ∙ sym c;
+        few = omega arith;
+        less = omega arith;
+        fits = omega arith;
+        kept = o .same ∙ i .kept;
+        within = more-within;
+        whole = λ y. more-whole (y ∙ c);
+      }
+
+  -- at most one record a selector is counted then
+  pub counted-few : d < 256 → count + (p - held) ≤ 256 * n
+  counted-few b =
+      let few = i .few in
+      let gathered = from .few in
+      let end = from .high in
+      let most = found .most in
+      let inside = i .here .on .inside in
+      omega arith
+
+  -- what a count that stops here says
+  pub counted : {walk : Walked (List Record) (List Record)} (r : Counted) → countedAs (r .stop) more ≡ walk → r .count ≡ count + (p - held) → r .held ≡ p → Counts t walk r ats′
+  counted r says c y =
+      let most = found .most in
+      record {
+        records = more;
+        same = says;
+        many = more-many ∙ sym c;
+        held = omega arith;
+        within = subst (λ (b : ℕ). Within t (take b ats′)) (sym y) more-within;
+        whole = λ w. more-whole (sym y ∙ w ∙ c) ∙ ap (λ (b : ℕ). map (recordFrom t) (take b ats′)) (sym y);
+      }

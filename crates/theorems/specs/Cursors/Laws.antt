@@ -3,7 +3,6 @@
 --     narrowCursor, cursor-in                            the cursor read: a selector above 255 is as good as 255
 --     PutPlaces, OutSoFar, out-none, out-more, out-all   the places written among the numbers
 --     cursor-out, put-all                                the cursor written
--- Assumes nothing.
 use mathlib.Core.Path.{_≡_, refl, sym, ap, _∙_}
 use Prim.Native.Nat.{ℕ, zero, suc, _+_, _*_, _/_, _%_, _≤_, _<_}
 use native.Mathlib.Omega.{arith}
@@ -15,7 +14,7 @@ use Rattle.theory.specs.Tests.{order}
 use Rattle.tray.specs.declared.Place.{Place}
 use Rattle.walk.specs.declared.cursor.Cursor.{Cursor}
 use Rattle.walk.specs.Code.{placed, numbers, getD-numbers, length-numbers}
-use Rattle.walk.specs.Answers.{cursorOf}
+use Rattle.answers.specs.Quick.{cursorOf}
 use Rattle.theorems.specs.Cursors.{spotIn, cursorIn, cursorNumbers}
 use Rattle.theorems.specs.Wide.{narrowed}
 
@@ -50,7 +49,7 @@ in-more {ns} {ps} {i} s l =
 pub in-all : {ns : List ℕ} {ps : List Place} {i : ℕ} → InSoFar ns ps i → 63 ≤ i → PlacesIn ns ps
 in-all {i = i} s l = let m : i ≤ 63 = s .most in record { most = omega arith; long = s .long; are = λ j k. s .are j (omega arith) }
 
--- a number behind the first three
+-- a number after the first three
 getD-drop3 : (ns : List ℕ) (j : ℕ) → getD (drop 3 ns) j 0 ≡ getD ns (j + 3) 0
 getD-drop3 ns j = getD-drop 3 ns j ∙ ap (λ (i : ℕ). getD ns i 0) (omega arith)
   where

@@ -1,4 +1,4 @@
--- The same of the quick calls, which ask 1, then 4, and then follow the walk (document 01, "Reading through an index"). The walk is the definition's:
+-- The same of the quick calls, which ask 1, then 4, and then follow the walk (docs/RULES.md, "Reading through an index"). The walk is the definition's:
 -- it stays at a record, comes to the end, or is lost at a selector of a segment.
 --     Fits, frames-by, off-1, off-4, on     both frames
 --     GetSays, get-exactly          get: 1, 4, 10
@@ -6,7 +6,6 @@
 --     NextSays, next-exactly        next: 1, 4, 11, 10
 --     PageSays, page-exactly        page: 1, 4, 11, 10
 --     SheetSays, sheet-exactly      sheet: 1, 4, 8, 9, 10, 7
--- Assumes nothing.
 use mathlib.Core.Path.{_≡_, refl, sym, ap, _∙_}
 use mathlib.Core.Logic.{_↔_, _⊎_, inl, inr}
 use Prim.Native.Nat.{ℕ, _+_, _-_, _*_, _≤_, _<_}
@@ -29,14 +28,16 @@ use Rattle.tray.specs.Run.{recordAt}
 use Rattle.index.specs.Layout.{indexFramed, IndexFramed}
 use Rattle.index.specs.Layout.Laws.{index-fits, fits-index}
 use Rattle.walk.specs.declared.cursor.Cursor.{Cursor}
-use Rattle.walk.specs.declared.Gets.{Gets}
-use Rattle.walk.specs.declared.Seeks.{Seeks}
+use Rattle.answers.specs.declared.ValueAnswer.{ValueAnswer}
+use Rattle.answers.specs.declared.CursorAnswer.{CursorAnswer}
 use Rattle.walk.specs.Walk.{Spot, Walked, stayed, ended, lost}
 use Rattle.walk.specs.Reads.{Found, seek, Got, gotFrom, get, next, Written, page, sheet, belongs}
 use Rattle.walk.specs.Code.{spotOf}
-use Rattle.walk.specs.Answers.{inFrames, refusedSeek, seekTold as seekBy, seekFramed, seekAnswer, refusedGet, gotTold, getFramed, getAnswer}
+use Rattle.answers.specs.Quick.{inFrames}
+use Rattle.answers.specs.Seek.{refusedSeek, seekTold as seekBy, seekFramed, seekAnswer}
+use Rattle.answers.specs.Get.{refusedGet, gotTold, getFramed, getAnswer}
 use Rattle.answers.specs.Next.{refusedNext, nextTold, nextFramed, nextAnswer}
-use Rattle.answers.specs.declared.Pages.{Pages}
+use Rattle.answers.specs.declared.PagedAnswer.{PagedAnswer}
 use Rattle.answers.specs.Page.{refusedPage, pageTold as pageBy, pageFramed, pageAnswer}
 use Rattle.answers.specs.declared.SheetAnswer.{SheetAnswer}
 use Rattle.answers.specs.declared.SheetAnswer.the-variants.{Refused as SheetRefused}
@@ -99,18 +100,18 @@ module _ (t x : List ℕ) where
     seek-gives : SeekSays (seekTold (seekAnswer t x key .answer) .number) (seekTold (seekAnswer t x key .answer) .figure)
     unfolding seekAnswer seekFramed seekTold
     seek-gives =
-        frames-by (λ (s : Seeks). SeekSays (seekTold (s .answer) .number) (seekTold (s .answer) .figure)) refusedSeek (seekFramed t x sought)
+        frames-by (λ (s : CursorAnswer). SeekSays (seekTold (s .answer) .number) (seekTold (s .answer) .figure)) refusedSeek (seekFramed t x sought)
         (λ w. seek-1 w) (λ f w. seek-4 f w) (λ f. seek-walked f (seek t x sought) refl)
 
     seek-on : Fits → (w : Walked ℕ Found) → seek t x sought ≡ w → seekTold (seekBy x w .answer) ≡ seekTold (seekAnswer t x key .answer)
     unfolding seekAnswer seekFramed
     seek-on f w e =
-        sym (ap (λ (s : Seeks). seekTold (s .answer)) (on refusedSeek (seekFramed t x sought) f) ∙ ap (λ (v : Walked ℕ Found). seekTold (seekBy x v .answer)) e)
+        sym (ap (λ (s : CursorAnswer). seekTold (s .answer)) (on refusedSeek (seekFramed t x sought) f) ∙ ap (λ (v : Walked ℕ Found). seekTold (seekBy x v .answer)) e)
 
     seek-alone : (n f : ℕ) → SeekSays n f → told n f ≡ seekTold (seekAnswer t x key .answer)
     unfolding seekTold seekBy seekAnswer
-    seek-alone _ _ (seek-1 w) = sym (ap (λ (s : Seeks). seekTold (s .answer)) (off-1 refusedSeek (seekFramed t x sought) w))
-    seek-alone _ _ (seek-4 f w) = sym (ap (λ (s : Seeks). seekTold (s .answer)) (off-4 refusedSeek (seekFramed t x sought) f w))
+    seek-alone _ _ (seek-1 w) = sym (ap (λ (s : CursorAnswer). seekTold (s .answer)) (off-1 refusedSeek (seekFramed t x sought) w))
+    seek-alone _ _ (seek-4 f w) = sym (ap (λ (s : CursorAnswer). seekTold (s .answer)) (off-4 refusedSeek (seekFramed t x sought) f w))
     seek-alone _ _ (seek-10 f g s k e) = seek-on f (lost g s k) e
     seek-alone _ _ (seek-found f r e) = seek-on f (stayed r) e
     seek-alone _ _ (seek-end f k e) = seek-on f (ended k) e
@@ -144,12 +145,12 @@ module _ (t x : List ℕ) where
     get-gives : GetSays (getTold (getAnswer t x key .answer) .number) (getTold (getAnswer t x key .answer) .figure)
     unfolding getAnswer getFramed getTold get
     get-gives =
-        frames-by (λ (s : Gets). GetSays (getTold (s .answer) .number) (getTold (s .answer) .figure)) refusedGet (getFramed t x sought)
+        frames-by (λ (s : ValueAnswer). GetSays (getTold (s .answer) .number) (getTold (s .answer) .figure)) refusedGet (getFramed t x sought)
         (λ w. get-1 w) (λ f w. get-4 f w) (λ f. get-walked f (seek t x sought) refl)
 
     get-on : Fits → (w : Walked ℕ Found) → seek t x sought ≡ w → gotBy w ≡ getTold (getAnswer t x key .answer)
     unfolding getAnswer getFramed get
-    get-on f w e = sym (ap (λ (s : Gets). getTold (s .answer)) (on refusedGet (getFramed t x sought) f) ∙ ap gotBy e)
+    get-on f w e = sym (ap (λ (s : ValueAnswer). getTold (s .answer)) (on refusedGet (getFramed t x sought) f) ∙ ap gotBy e)
 
     -- a record found, by its key
     stays-by : (r : Found) → recordAt (runBytes t (r .run)) (r .place) .key ≡ sought → gotBy (stayed r) ≡ told 0 1
@@ -162,8 +163,8 @@ module _ (t x : List ℕ) where
 
     get-alone : (n f : ℕ) → GetSays n f → told n f ≡ getTold (getAnswer t x key .answer)
     unfolding getTold gotTold gotFrom getAnswer
-    get-alone _ _ (get-1 w) = sym (ap (λ (s : Gets). getTold (s .answer)) (off-1 refusedGet (getFramed t x sought) w))
-    get-alone _ _ (get-4 f w) = sym (ap (λ (s : Gets). getTold (s .answer)) (off-4 refusedGet (getFramed t x sought) f w))
+    get-alone _ _ (get-1 w) = sym (ap (λ (s : ValueAnswer). getTold (s .answer)) (off-1 refusedGet (getFramed t x sought) w))
+    get-alone _ _ (get-4 f w) = sym (ap (λ (s : ValueAnswer). getTold (s .answer)) (off-4 refusedGet (getFramed t x sought) f w))
     get-alone _ _ (get-10 f g s k e) = get-on f (lost g s k) e
     get-alone _ _ (get-found f r e z) = sym (stays-by r z) ∙ get-on f (stayed r) e
     get-alone _ _ (get-other f r e z) = sym (stays-off r z) ∙ get-on f (stayed r) e
@@ -193,9 +194,9 @@ module _ (t x : List ℕ) where
     next-gives : NextSays (seekTold (nextAnswer t x c .answer) .number) (seekTold (nextAnswer t x c .answer) .figure)
     unfolding nextAnswer nextFramed seekTold
     next-gives =
-        frames-by (λ (s : Seeks). NextSays (seekTold (s .answer) .number) (seekTold (s .answer) .figure)) (refusedNext c) (nextFramed t x c)
+        frames-by (λ (s : CursorAnswer). NextSays (seekTold (s .answer) .number) (seekTold (s .answer) .figure)) (refusedNext c) (nextFramed t x c)
         (λ w. next-1 w) (λ f w. next-4 f w)
-        (λ f. split (λ (s : Seeks). NextSays (seekTold (s .answer) .number) (seekTold (s .answer) .figure)) (belongs (runCount t) x (spotOf c))
+        (λ f. split (λ (s : CursorAnswer). NextSays (seekTold (s .answer) .number) (seekTold (s .answer) .figure)) (belongs (runCount t) x (spotOf c))
         (λ b. next-walked f b (next t x (spotOf c)) refl) (λ n. next-11 f n))
 
     next-belongs : belongs (runCount t) x (spotOf c) ≡ true → nextFramed t x c ≡ nextTold x c (next t x (spotOf c))
@@ -210,13 +211,13 @@ module _ (t x : List ℕ) where
         → seekTold (nextTold x c w .answer) ≡ seekTold (nextAnswer t x c .answer)
     unfolding nextAnswer
     next-on f b w e =
-        sym (ap (λ (s : Seeks). seekTold (s .answer)) (on (refusedNext c) (nextFramed t x c) f ∙ next-belongs b ∙ ap (nextTold x c) e))
+        sym (ap (λ (s : CursorAnswer). seekTold (s .answer)) (on (refusedNext c) (nextFramed t x c) f ∙ next-belongs b ∙ ap (nextTold x c) e))
 
     next-alone : (n f : ℕ) → NextSays n f → told n f ≡ seekTold (nextAnswer t x c .answer)
     unfolding seekTold nextTold nextAnswer
-    next-alone _ _ (next-1 w) = sym (ap (λ (s : Seeks). seekTold (s .answer)) (off-1 (refusedNext c) (nextFramed t x c) w))
-    next-alone _ _ (next-4 f w) = sym (ap (λ (s : Seeks). seekTold (s .answer)) (off-4 (refusedNext c) (nextFramed t x c) f w))
-    next-alone _ _ (next-11 f n) = sym (ap (λ (s : Seeks). seekTold (s .answer)) (on (refusedNext c) (nextFramed t x c) f ∙ next-not n))
+    next-alone _ _ (next-1 w) = sym (ap (λ (s : CursorAnswer). seekTold (s .answer)) (off-1 (refusedNext c) (nextFramed t x c) w))
+    next-alone _ _ (next-4 f w) = sym (ap (λ (s : CursorAnswer). seekTold (s .answer)) (off-4 (refusedNext c) (nextFramed t x c) f w))
+    next-alone _ _ (next-11 f n) = sym (ap (λ (s : CursorAnswer). seekTold (s .answer)) (on (refusedNext c) (nextFramed t x c) f ∙ next-not n))
     next-alone _ _ (next-10 f b g s k e) = next-on f b (lost g s k) e
     next-alone _ _ (next-found f b r e) = next-on f b (stayed r) e
     next-alone _ _ (next-end f b k e) = next-on f b (ended k) e
@@ -245,9 +246,9 @@ module _ (t x : List ℕ) where
       page-gives : PageSays (pageTold (pageAnswer t x c out .answer) .number) (pageTold (pageAnswer t x c out .answer) .figure)
       unfolding pageAnswer pageFramed pageTold
       page-gives =
-          frames-by (λ (p : Pages). PageSays (pageTold (p .answer) .number) (pageTold (p .answer) .figure)) (refusedPage c) (pageFramed t x c out)
+          frames-by (λ (p : PagedAnswer). PageSays (pageTold (p .answer) .number) (pageTold (p .answer) .figure)) (refusedPage c) (pageFramed t x c out)
           (λ w. page-1 w) (λ f w. page-4 f w)
-          (λ f. split (λ (p : Pages). PageSays (pageTold (p .answer) .number) (pageTold (p .answer) .figure)) (belongs (runCount t) x (spotOf c))
+          (λ f. split (λ (p : PagedAnswer). PageSays (pageTold (p .answer) .number) (pageTold (p .answer) .figure)) (belongs (runCount t) x (spotOf c))
           (λ b. page-walked f b (page t x (spotOf c) out) refl) (λ n. page-11 f n))
 
       page-belongs : belongs (runCount t) x (spotOf c) ≡ true → pageFramed t x c out ≡ pageBy x c (page t x (spotOf c) out)
@@ -262,13 +263,13 @@ module _ (t x : List ℕ) where
           → pageTold (pageBy x c w .answer) ≡ pageTold (pageAnswer t x c out .answer)
       unfolding pageAnswer
       page-on f b w e =
-          sym (ap (λ (p : Pages). pageTold (p .answer)) (on (refusedPage c) (pageFramed t x c out) f ∙ page-belongs b ∙ ap (pageBy x c) e))
+          sym (ap (λ (p : PagedAnswer). pageTold (p .answer)) (on (refusedPage c) (pageFramed t x c out) f ∙ page-belongs b ∙ ap (pageBy x c) e))
 
       page-alone : (n f : ℕ) → PageSays n f → told n f ≡ pageTold (pageAnswer t x c out .answer)
       unfolding pageTold pageBy pageAnswer
-      page-alone _ _ (page-1 w) = sym (ap (λ (p : Pages). pageTold (p .answer)) (off-1 (refusedPage c) (pageFramed t x c out) w))
-      page-alone _ _ (page-4 f w) = sym (ap (λ (p : Pages). pageTold (p .answer)) (off-4 (refusedPage c) (pageFramed t x c out) f w))
-      page-alone _ _ (page-11 f n) = sym (ap (λ (p : Pages). pageTold (p .answer)) (on (refusedPage c) (pageFramed t x c out) f ∙ page-not n))
+      page-alone _ _ (page-1 w) = sym (ap (λ (p : PagedAnswer). pageTold (p .answer)) (off-1 (refusedPage c) (pageFramed t x c out) w))
+      page-alone _ _ (page-4 f w) = sym (ap (λ (p : PagedAnswer). pageTold (p .answer)) (off-4 (refusedPage c) (pageFramed t x c out) f w))
+      page-alone _ _ (page-11 f n) = sym (ap (λ (p : PagedAnswer). pageTold (p .answer)) (on (refusedPage c) (pageFramed t x c out) f ∙ page-not n))
       page-alone _ _ (page-10 f b g s w e) = page-on f b (lost g s w) e
       page-alone _ _ (page-more f b w e) = page-on f b (stayed w) e
       page-alone _ _ (page-end f b w e) = page-on f b (ended w) e

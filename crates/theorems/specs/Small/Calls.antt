@@ -1,5 +1,4 @@
 -- What the library's definitions give for runs and a D: each call with all that it computes by, so that to unfold it here is to unfold them.
--- Assumes nothing.
 use Prim.Native.Nat.{ℕ}
 use mathlib.Core.List.{List, [], _∷_, _++_, map}
 use lib.ListN.{length, replicate}
@@ -17,30 +16,32 @@ use Rattle.tray.specs.declared.TrayAnswer.{TrayAnswer}
 use Rattle.tray.specs.declared.TrayAnswer.the-variants.{Records, Refused as TrayRefused}
 use Rattle.tray.specs.Frame.{runCount, countOf, recordsBefore, startOf, runBytes, headerFits, countsFit, framed}
 use Rattle.tray.specs.Run.{recordFrom, kindWrong, keyWrong, judgeFrom}
-use Rattle.tray.specs.Check.{afterRun, checkRuns, checkTray}
+use Rattle.tray.specs.Check.{afterRun, checkRuns, checkTrayAnswer}
 use Rattle.tray.specs.Meaning.{runOf, runsOf, recordBytes, recordsBytes, countsBytes, runsBytes, trayBytes, total}
 use Rattle.index.specs.declared.IndexAnswer.{IndexAnswer}
 use Rattle.index.specs.declared.IndexAnswer.the-variants.{Segments, Refused as IndexRefused}
 use Rattle.index.specs.Layout.{sizeOf, segmentCount, headSize, segmentAt, Segment, indexFramed}
 use Rattle.index.specs.Rules.{selectorOf}
 use Rattle.index.specs.Scan.{marked, raise, begins, joins, offsetsHold, onlyPlaceholders, nextIn, hasNext, headsAbove, usedUp, names, closed, following, selectorsScan, segmentScan, scanFrom}
-use Rattle.index.specs.Check.{afterScan, judgeIndex, framedIndex, afterTray, checkIndex}
+use Rattle.index.specs.Check.{afterScan, judgeIndex, framedIndex, afterTray, checkIndexAnswer}
 use Rattle.build_spec.specs.declared.BuildAnswer.{BuildAnswer}
 use Rattle.build_spec.specs.declared.BuildAnswer.the-variants.{Written, Refused as BuildRefused}
-use Rattle.build_spec.specs.Build.{cuts, anchorOf, offsetsBytes, segmentBytes, segmentsBytes, indexBytes, indexSize, sizeFits, afterCheck, build, leaves}
+use Rattle.build_spec.specs.Build.{cuts, anchorOf, offsetsBytes, segmentBytes, segmentsBytes, indexBytes, indexSize, sizeFits, afterCheck, buildAnswer, buildLeaves}
 use Rattle.fold_spec.specs.declared.FoldAnswer.{FoldAnswer}
 use Rattle.fold_spec.specs.declared.FoldAnswer.the-variants.{Written as FoldWritten, Refused as FoldRefused}
-use Rattle.fold_spec.specs.Fold.{foldedRun, foldedRuns, foldBytes, foldSize, boundsHold, afterCheck as afterFold, foldAnswer, leaves as foldLeaves}
-use Rattle.walk.specs.declared.Seeks.{Seeks}
-use Rattle.walk.specs.declared.SeekAnswer.{SeekAnswer}
-use Rattle.walk.specs.declared.SeekAnswer.the-variants.{Found as SeekFound, End as SeekEnd, Refused as SeekRefused}
-use Rattle.walk.specs.declared.Gets.{Gets}
-use Rattle.walk.specs.declared.GetAnswer.{GetAnswer}
-use Rattle.walk.specs.declared.GetAnswer.the-variants.{Found as GetFound, Absent, Refused as GetRefused}
+use Rattle.fold_spec.specs.Fold.{foldedRun, foldedRuns, foldBytes, foldSize, boundsHold, afterCheck as afterFold, foldAnswer, foldLeaves}
+use Rattle.answers.specs.declared.CursorAnswer.{CursorAnswer}
+use Rattle.answers.specs.declared.SeekAnswer.{SeekAnswer}
+use Rattle.answers.specs.declared.SeekAnswer.the-variants.{Found as SeekFound, End as SeekEnd, Refused as SeekRefused}
+use Rattle.answers.specs.declared.ValueAnswer.{ValueAnswer}
+use Rattle.answers.specs.declared.GetAnswer.{GetAnswer}
+use Rattle.answers.specs.declared.GetAnswer.the-variants.{Found as GetFound, Absent, Refused as GetRefused}
 use Rattle.walk.specs.Start.{probe, start}
 use Rattle.walk.specs.Walk.{loaded, named, walkSelectors, walkSegments}
 use Rattle.walk.specs.Reads.{recordBy, unmarked, endSpot, foundBy, seekVisit, seek, gotFrom, get}
-use Rattle.walk.specs.Answers.{cursorOf, seekTold, seekFramed, inFrames, seekAnswer, gotTold, getFramed, getAnswer}
+use Rattle.answers.specs.Quick.{cursorOf, inFrames}
+use Rattle.answers.specs.Seek.{seekTold, seekFramed, seekAnswer}
+use Rattle.answers.specs.Get.{gotTold, getFramed, getAnswer}
 use Rattle.theorems.specs.Small.Rows.{accepted}
 
 -- what a call gives: its answer as number and figure, and what it leaves in its output, if it has one
@@ -82,7 +83,7 @@ foldVerdict (FoldWritten n) = accepted n
 foldVerdict (FoldRefused r) = verdictOf r
 
 -- seek's answer: 1 with run and place where it found a record, 0 at the end
-abbrev pub seekGiven : Seeks → Given
+abbrev pub seekGiven : CursorAnswer → Given
 seekGiven r = told (r .answer)
   where
     told : SeekAnswer → Given
@@ -91,7 +92,7 @@ seekGiven r = told (r .answer)
     told (SeekRefused r) = gives (verdictOf r)
 
 -- get's answer: 1 with the value where it found one, 0 where it did not
-abbrev pub getGiven : Gets → Given
+abbrev pub getGiven : ValueAnswer → Given
 getGiven r = told (r .answer)
   where
     told : GetAnswer → Given
@@ -102,24 +103,24 @@ getGiven r = told (r .answer)
 -- check tray
 unfoldable pub checks : List (List Record) → Given
 unfolding trayBytes countsBytes runsBytes recordsBytes recordBytes bytesOf
-    checkTray checkRuns afterRun judgeFrom kindWrong keyWrong recordFrom framed headerFits countsFit runCount countOf recordsBefore startOf runBytes be
-checks runs = gives (trayVerdict (checkTray (trayBytes runs)))
+    checkTrayAnswer checkRuns afterRun judgeFrom kindWrong keyWrong recordFrom framed headerFits countsFit runCount countOf recordsBefore startOf runBytes be
+checks runs = gives (trayVerdict (checkTrayAnswer (trayBytes runs)))
 
 -- check index, for an index that is given by its segments
 unfoldable pub judged : List (List Record) → ℕ → List Segment → Given
 unfolding checks bytesOfIndex
-    checkIndex afterTray framedIndex judgeIndex afterScan scanFrom segmentScan selectorsScan following closed names usedUp headsAbove hasNext nextIn
+    checkIndexAnswer afterTray framedIndex judgeIndex afterScan scanFrom segmentScan selectorsScan following closed names usedUp headsAbove hasNext nextIn
     onlyPlaceholders offsetsHold joins begins raise marked indexFramed segmentAt headSize segmentCount sizeOf
-judged runs d ss = gives (indexVerdict (checkIndex (trayBytes runs) (bytesOfIndex (length runs) d ss)))
+judged runs d ss = gives (indexVerdict (checkIndexAnswer (trayBytes runs) (bytesOfIndex (length runs) d ss)))
 
 -- build
 unfoldable pub built : List (List Record) → ℕ → Given
 unfolding checks
-    leaves build afterCheck sizeFits indexSize segmentAt headSize indexBytes segmentsBytes segmentBytes offsetsBytes anchorOf cuts selectorOf put
+    buildLeaves buildAnswer afterCheck sizeFits indexSize segmentAt headSize indexBytes segmentsBytes segmentBytes offsetsBytes anchorOf cuts selectorOf put
     runsOf runOf listed joined count pack packOn groups grouped view entriesFrom spread insertAll insert old hidden any
 built runs d =
-    let a = build (trayBytes runs) d (length room) in
-    record { answer = buildVerdict a; output = leaves (trayBytes runs) d room a }
+    let a = buildAnswer (trayBytes runs) d (length room) in
+    record { answer = buildVerdict a; output = buildLeaves (trayBytes runs) d room a }
 
 -- seek and get of a key, through an index that is given by its segments
 unfoldable pub sought : List (List Record) → ℕ → List Segment → ℕ → Given

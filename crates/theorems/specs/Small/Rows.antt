@@ -1,5 +1,5 @@
--- The table of document 01, "Small trays to prove", as data: a row each, with the runs, D, and what the row says of them. Numbers stand for
--- keys. `Table` has the statement. Assumes nothing.
+-- The table of docs/RULES.md, "Small trays to prove", as data: a row each, with the runs, D, and what the row says of them. Numbers stand for
+-- keys. `Table` has the statement.
 use Prim.Native.Nat.{ℕ}
 use mathlib.Core.List.{List, [], _∷_}
 use Rattle.refusal.specs.Table.{told}

@@ -1,5 +1,5 @@
--- The small trays of document 01, proved: one statement over all rows, by computation. The output of build and fold is compared whole, so that
--- what stands behind what they write is seen to be untouched. Assumes nothing.
+-- The small trays (docs/RULES.md, "Small trays to prove"), proved: one statement over all rows, by computation. The output of build and fold is compared whole, so that
+-- what stands after what they write is seen to be untouched.
 use mathlib.Core.Path.{_≡_, refl}
 use mathlib.Core.List.{List, [], _∷_, _++_, map}
 use lib.ListN.{length, drop}

@@ -1,9 +1,8 @@
--- What a number says of the answer behind it: 0 is an answer, any other a refusal.
+-- What a number says of the answer that goes with it: 0 is an answer, any other a refusal.
 --     refused-above, not-zero            a refusal's number is above 0
---     tray-zero, index-zero, build-zero, sheet-zero, fold-zero     the answer behind 0
---     build-refused, sheet-refused, fold-refused, ..               a refusal behind any other number
---     get-cases, seek-cases, page-cases                            the answer behind a number and figure
--- Assumes nothing.
+--     tray-zero, index-zero, build-zero, sheet-zero, fold-zero     the answer that goes with 0
+--     build-refused, sheet-refused, fold-refused, ..               a refusal for any other number
+--     get-cases, seek-cases, page-cases                            the answer that goes with a number and figure
 use mathlib.Core.Path.{_≡_, refl, sym, ap}
 use Prim.Native.Nat.{ℕ, _<_}
 use native.Mathlib.Omega.{arith}
@@ -21,10 +20,10 @@ use Rattle.build_spec.specs.declared.BuildAnswer.{BuildAnswer}
 use Rattle.build_spec.specs.declared.BuildAnswer.the-variants.{Written as BuildWritten, Refused as BuildRefused}
 use Rattle.fold_spec.specs.declared.FoldAnswer.{FoldAnswer}
 use Rattle.fold_spec.specs.declared.FoldAnswer.the-variants.{Written as FoldWritten, Refused as FoldRefused}
-use Rattle.walk.specs.declared.GetAnswer.{GetAnswer}
-use Rattle.walk.specs.declared.GetAnswer.the-variants.{Found as GetFound, Absent, Refused as GetRefused}
-use Rattle.walk.specs.declared.SeekAnswer.{SeekAnswer}
-use Rattle.walk.specs.declared.SeekAnswer.the-variants.{Found, End, Refused as SeekRefused}
+use Rattle.answers.specs.declared.GetAnswer.{GetAnswer}
+use Rattle.answers.specs.declared.GetAnswer.the-variants.{Found as GetFound, Absent, Refused as GetRefused}
+use Rattle.answers.specs.declared.SeekAnswer.{SeekAnswer}
+use Rattle.answers.specs.declared.SeekAnswer.the-variants.{Found, End, Refused as SeekRefused}
 use Rattle.answers.specs.declared.PageAnswer.{PageAnswer}
 use Rattle.answers.specs.declared.PageAnswer.the-variants.{More, End as PageEnd, Refused as PageRefused}
 use Rattle.answers.specs.declared.SheetAnswer.{SheetAnswer}

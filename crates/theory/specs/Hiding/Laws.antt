@@ -1,4 +1,4 @@
--- Edition 0's rule is a rule, for records of any sort. Assumes nothing.
+-- Edition 0's rule is a rule, for records of any sort.
 use mathlib.Core.Path.{_∙_}
 use Prim.Native.Nat.{ℕ}
 use borrow.Author.Tests.{eqb-true, eq-eqb}

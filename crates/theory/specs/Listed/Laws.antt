@@ -6,7 +6,6 @@
 --     listed-same                         two that agree number by number are equal
 --     Steps, rises-listed, listed-rises   it rises exactly when each member is below the next one
 --     laid                                members read from a list and laid end to end again are a part of it
--- Assumes nothing.
 use mathlib.Core.Path.{_≡_, refl, sym, ap, subst}
 use mathlib.Core.Logic.{⊎-elim}
 use mathlib.Core.Option.{some, none as none-there}

@@ -1,4 +1,4 @@
--- Worked cases of merging and folding, rows j and k of document 01's small trays among them. Assumes nothing.
+-- Worked cases of merging and folding, rows j and k of docs/RULES.md, "Small trays to prove" among them.
 use mathlib.Core.Path.{_≡_, refl}
 use Prim.Native.Nat.{ℕ, _/_}
 use mathlib.Core.Bool.{Bool, _||_, _&&_}

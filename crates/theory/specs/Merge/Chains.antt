@@ -1,4 +1,4 @@
--- Laws of folds and of chains of folds (document 01, "Folding"; demand 3).
+-- Laws of folds and of chains of folds (docs/RULES.md, "Folding"; demand 3).
 --     fold-parts, fold-at                       the tray around the runs that are folded, taken apart and put together
 --     length-fold                               b - a runs fewer
 --     fold-whole, fold-same                     all runs at once give the merge of all; one run alone, the tray
@@ -10,7 +10,7 @@
 --     run-length, chain-length                  edition 0: no run is longer than the merge of all, also after a chain
 --     fold-length, chain-fold-length            nor is what a fold makes, also after a chain
 -- Length alone stops a chain to one run exactly when it stops one fold of all: `chain-fold-length` where the merge of all is short enough,
--- `chain-stops` where it is not. Assumes nothing.
+-- `chain-stops` where it is not.
 use mathlib.Core.Path.{_≡_, refl, sym, ap, subst, _∙_}
 use mathlib.Core.Logic.{⊎-elim}
 use Prim.Native.Nat.{ℕ, suc, _+_, _-_, _≤_, _<_}

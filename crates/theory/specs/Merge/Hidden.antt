@@ -3,7 +3,6 @@
 --     hidden-by, hidden-some       a run that hides a record has one that does, and the other way round
 --     hidden-none, none-hidden     a run that does not has none
 --     Stays, NotOld                a record of two runs, or of a tray, that nothing newer hides
--- Assumes nothing.
 use mathlib.Core.Path.{_≡_}
 use mathlib.Core.Logic.{_⊎_}
 use mathlib.Core.Bool.{Bool, true, false}

@@ -7,7 +7,6 @@
 --     merged-one, merged-front, merged-append     one run; other runs of the same merge; two trays end to end
 --     merged-mem, mem-merged                      the merge has the records that are not old, and no others
 --     hides-itself, merged-covers                 a run hides each of its records, and the merge those of every run
--- Assumes nothing.
 use mathlib.Core.Path.{_≡_, refl, sym, ap, _∙_}
 use mathlib.Core.Logic.{inl, inr, ⊎-elim}
 use Prim.Native.Nat.{ℕ}

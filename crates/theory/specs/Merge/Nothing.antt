@@ -2,7 +2,6 @@
 --     empty-adds-nothing, copy-adds-nothing           the merge of all is the same without it
 --     fold-pair                                       a fold of two neighbours
 --     fold-empty-newer, fold-empty-older, fold-copy   folded with its neighbour it leaves the neighbour
--- Assumes nothing.
 use mathlib.Core.Path.{_≡_, sym, ap, _∙_}
 use Prim.Native.Nat.{ℕ, _+_}
 use native.Mathlib.Omega.{arith}

@@ -1,5 +1,5 @@
 -- Worked cases of `groups` and `pack`, computed: a definition that differs on one of them is refused here.
--- The lists are keys; the letters are rows of document 01's table of small trays. Assumes nothing.
+-- The lists are keys; the letters are rows of docs/RULES.md, "Small trays to prove".
 use mathlib.Core.Path.{_≡_, refl}
 use mathlib.Core.List.{List, [], _∷_}
 use Prim.Native.Nat.{ℕ}

@@ -1,5 +1,4 @@
 -- Laws of `joined` and `groups`. Beside the worked cases only this file looks inside `groups` and `grouped`.
--- Assumes nothing.
 --     joined-append            lists of lists put one after another
 --     mem-joined, joined-mem   a member of all is a member of one, and the other way round
 --     groups-joined            the groups put together are the list

@@ -1,5 +1,5 @@
--- Laws of `pack` (document 01, "The index": our builder's segments). Beside the worked cases only this file looks inside
--- `pack` and `packOn`. Not here: `joined` and `groups`, in `Groups.antt`. Assumes nothing.
+-- Laws of `pack` (docs/RULES.md, "The index": our builder's segments). Beside the worked cases only this file looks inside
+-- `pack` and `packOn`. Not here: `joined` and `groups`, in `Groups.antt`.
 --     pack-joined    the segments put together are the groups put together
 --     pack-fits      no segment is too long, if no group is
 --     pack-full      no segment is empty, if no group is

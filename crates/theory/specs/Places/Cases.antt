@@ -1,4 +1,4 @@
--- Worked cases of places, over row b of document 01, "Small trays to prove": {5},{5,9}. An item is its key. Assumes nothing.
+-- Worked cases of places, over row b of docs/RULES.md, "Small trays to prove": {5},{5,9}. An item is its key.
 use mathlib.Core.Path.{_≡_, refl}
 use Prim.Native.Nat.{ℕ}
 use mathlib.Core.List.{List, [], _∷_}

@@ -2,7 +2,6 @@
 --     heads-head, head-heads       they are the heads
 --     heads-rise, heads-length     one a run at most, in run order
 --     heads-take                   heads in run order can be read one after another
--- Assumes nothing.
 use mathlib.Core.Path.{_≡_, refl, sym, ap, _∙_}
 use mathlib.Core.Logic.{⊎-elim}
 use Prim.Native.Nat.{ℕ, zero, suc, _+_, _<_, _≤_, zero-le}

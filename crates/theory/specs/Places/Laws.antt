@@ -4,7 +4,6 @@
 --     stretch                                  what is read in order is the next part of the view
 --     stretch-back, first-head                 the next part of the view is read from the runs one by one
 --     place-count                              an entry's place is the number of entries of its run before it
--- Assumes nothing.
 use mathlib.Core.Path.{_≡_, refl, sym, ap, _∙_}
 use mathlib.Core.Logic.{_⊎_, inl, inr, ⊎-elim}
 use Prim.Native.Nat.{ℕ, _<_, _≤_}

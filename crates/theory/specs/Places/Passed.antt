@@ -3,7 +3,6 @@
 --     bump-same, bump-other, bump-le          the place of one run raised
 --     passed-append, passed-count, passed-le  the places after some entries: each raised by the entries of its run
 --     count-append                            the entries of a run in two parts
--- Assumes nothing.
 use mathlib.Core.Path.{_≡_, refl, sym, ap, _∙_}
 use Prim.Native.Nat.{ℕ, suc, _+_, _≤_}
 use native.Mathlib.Nat.{add-zero}

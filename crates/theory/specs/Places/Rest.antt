@@ -4,7 +4,6 @@
 --     rest-rises, head-first                      it rises, and of each run the next record comes first
 --     head-lt, lt-head, head-of                   a run has a next record exactly where something of it is left
 --     rest-end, used-end, end-used                nothing is left exactly where every run has been read
--- Assumes nothing.
 use mathlib.Core.Path.{_≡_, refl, ap, fun-ext}
 use Prim.Native.Nat.{ℕ, _<_, _≤_}
 use native.Mathlib.Omega.{arith}

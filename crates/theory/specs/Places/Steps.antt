@@ -3,7 +3,6 @@
 --     versions-head, head-versions, versions-key    the versions of a key: the next records that have it
 --     versions-runs, versions-rise, versions-length, versions-takes    one a run at most, in run order
 --     step, step-above     they come next in the view, and after them only higher keys
--- Assumes nothing.
 use mathlib.Core.Path.{_≡_, ap}
 use Prim.Native.Nat.{ℕ, _<_, _≤_}
 use native.Mathlib.Omega.{arith}

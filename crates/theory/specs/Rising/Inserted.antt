@@ -3,7 +3,6 @@
 --     insertAll-nil, insertAll-append                   none put in; two lists put in, one after the other
 --     mem-insertAll, insertAll-mem, rises-insertAll     many put in
 --     permuted-insertAll, permuted-mem, permuted-back   another order, the same members
--- Assumes nothing.
 use mathlib.Core.Path.{_≡_, refl, ap}
 use mathlib.Core.Logic.{_⊎_, inl, inr, ⊎-elim}
 use Prim.Native.Nat.{ℕ, _<_, _≤_}

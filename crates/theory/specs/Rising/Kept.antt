@@ -4,7 +4,6 @@
 --     mem-keep, keep-mem                           what is kept: the members that pass
 --     keep-all, keep-length                        all of a list that passes, and never more than the list
 --     rises-keep                                   what is kept of a list that rises
--- Assumes nothing.
 use mathlib.Core.Path.{_≡_, refl, sym, ap, _∙_}
 use mathlib.Core.Logic.{⊎-elim}
 use Prim.Native.Nat.{ℕ, suc, _≤_, zero-le}

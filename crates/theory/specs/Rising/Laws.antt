@@ -4,7 +4,6 @@
 --     rises-before, rises-places                  what is lower than a member stands before it; of two places the later is higher
 --     rises-by, rises-map                         rising by another number, and of what the members are taken to
 --     NumberOf, rises-length                      a list with no number that the other has not is not longer
--- Assumes nothing.
 use mathlib.Core.Path.{_≡_, refl, sym, ap, _∙_}
 use mathlib.Core.Logic.{_⊎_, inl, inr, ⊎-elim}
 use Prim.Native.Nat.{ℕ, zero, suc, _<_, _≤_, zero-le, suc-le-suc}

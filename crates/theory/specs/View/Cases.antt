@@ -1,5 +1,5 @@
--- Worked cases of the view: rows b, c, e and f of document 01, "Small trays to prove".
--- An item is a key and whether it is live. Assumes nothing.
+-- Worked cases of the view: rows b, c, e and f of docs/RULES.md, "Small trays to prove".
+-- An item is a key and whether it is live.
 use mathlib.Core.Path.{_≡_, refl}
 use Prim.Native.Nat.{ℕ}
 use mathlib.Core.Bool.{Bool, true, false}

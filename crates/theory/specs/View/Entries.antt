@@ -7,7 +7,6 @@
 --     runAt-lt, runAt-place, runAt-past     a run by its number: where it holds something, where it stands, past the last
 --     at-run, at-low, at-mem, mem-at  an entry's run, and the records of a run
 --     runs-rise, at-rise, at-rise-le  a run's keys rise, from place to place
--- Assumes nothing.
 use mathlib.Core.Path.{_≡_, refl, sym, ap, _∙_}
 use mathlib.Core.Logic.{_⊎_, inl, inr, ⊎-elim}
 use Prim.Native.Nat.{ℕ, zero, suc, _+_, _<_, _≤_}

@@ -2,8 +2,8 @@
 -- Beside the worked cases only this file looks inside `view`.
 --     before→rank, rank→before        one number for the order, up to 64 runs
 --     view-at, at-view, view-rises    the view's entries, and that they rise
---     view-is, view-one               the view in 01's words, and no other list is one
--- Not here: what stands in a tray and where, which is in `View/Entries.antt`. Assumes nothing.
+--     view-is, view-one               the view in the rules' words, and no other list is one
+-- Not here: what stands in a tray and where, which is in `View/Entries.antt`.
 use mathlib.Core.Path.{_≡_}
 use mathlib.Core.Logic.{inl, inr, ⊎-elim}
 use Prim.Native.Nat.{ℕ, suc, _+_, _*_, _<_, _≤_}

@@ -3,7 +3,6 @@
 --     old-some, some-old           old is: an entry of a lower-numbered run hides it
 --     old-before, before-old       edition 0: an entry before it in the view has its key
 --     old-neighbour, old-first     edition 0: the entry just before it has its key; the first entry is not old
--- Assumes nothing.
 use mathlib.Core.Path.{_≡_, sym, ap, _∙_}
 use mathlib.Core.Logic.{⊎-elim}
 use Prim.Native.Nat.{ℕ, zero, suc, _<_, _≤_}

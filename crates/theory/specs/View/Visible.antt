@@ -1,7 +1,7 @@
--- What is visible in the view is the live part of the full merge (document 01, "The sorted view" and "Reading through an index").
+-- What is visible in the view is the live part of the full merge (docs/RULES.md, "The sorted view" and "Reading through an index").
 --     visible-new, visible-live, new-visible     visible is: not old, and live
 --     visible-is                                 the view's visible records are the merge's live ones, in its order
--- Not here: the laws of `merged`, which are in `Merge/Laws.antt`. Assumes nothing.
+-- Not here: the laws of `merged`, which are in `Merge/Laws.antt`.
 use mathlib.Core.Path.{_≡_, refl, sym, ap, _∙_}
 use mathlib.Core.Logic.{⊎-elim}
 use Prim.Native.Nat.{ℕ, suc, _<_, _≤_}

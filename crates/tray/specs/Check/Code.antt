@@ -2,7 +2,6 @@
 --     Judging, judging-none, judging-more     the runs before run r are right
 --     judged-end, judged-kind, judged-key     how the loop over runs ends
 --     check-frame, check-judged               the whole call
--- Assumes nothing.
 use mathlib.Core.Path.{_≡_, sym, ap, _∙_}
 use Prim.Native.Nat.{ℕ, suc, _+_, _-_, _*_, _≤_, _<_}
 use native.Mathlib.Omega.{arith}
@@ -18,7 +17,7 @@ use Rattle.tray.specs.declared.TrayAnswer.the-variants.{Records, Refused
 use Rattle.tray.specs.Frame.{runCount, countOf, recordsBefore, runBytes, framed}
 use Rattle.tray.specs.Frame.Laws.{recordsBefore-next, recordsBefore-zero}
 use Rattle.tray.specs.Run.{judgeRun}
-use Rattle.tray.specs.Check.{afterRun, checkRuns, checkTray}
+use Rattle.tray.specs.Check.{afterRun, checkRuns, checkTrayAnswer}
 
 module _ (t : List ℕ) where
   -- the runs before run r are right, and hold `before` records
@@ -79,10 +78,10 @@ module _ (t : List ℕ) where
       ap Records (j .counted) ∙ rw z at (j .same)
 
   -- the frame decides whether the runs are judged
-  pub check-judged : {a : TrayAnswer} → framed t ≡ true → a ≡ checkRuns (runCount t) t 0 → a ≡ checkTray t
-  unfolding checkTray
+  pub check-judged : {a : TrayAnswer} → framed t ≡ true → a ≡ checkRuns (runCount t) t 0 → a ≡ checkTrayAnswer t
+  unfolding checkTrayAnswer
   check-judged y e = rw y e
 
-  pub check-frame : framed t ≡ false → Refused TrayFrame ≡ checkTray t
-  unfolding checkTray
+  pub check-frame : framed t ≡ false → Refused TrayFrame ≡ checkTrayAnswer t
+  unfolding checkTrayAnswer
   check-frame n = rw n

@@ -3,7 +3,6 @@
 --     says                 check tray's answer is one that the table gives
 --     Wrong, says-one      the table gives one answer
 --     check-says           so check tray gives an answer exactly when the table does
--- Assumes nothing.
 use mathlib.Core.Path.{_≡_, refl, sym, ap, ap₂, _∙_, subst}
 use mathlib.Core.Logic.{_↔_}
 use Prim.Native.Nat.{ℕ, zero, suc, _+_, _≤_, _<_}
@@ -19,7 +18,7 @@ use Rattle.tray.specs.Frame.{runCount, countOf, recordsBefore, runBytes,
 use Rattle.tray.specs.Frame.Laws.{framed-fits, fits-framed, upto, recordsBefore-next, recordsBefore-le}
 use Rattle.tray.specs.Run.{recordAt, kindWrong, keyWrong}
 use Rattle.tray.specs.Run.Laws.{Fine, Judged, all-fine, kind-at, key-at, judged, fine-sound, sound-fine, key-rises, rises-key, first-key}
-use Rattle.tray.specs.Check.{afterRun, checkRuns, checkTray, Sound, Numbered, RightBefore, Says, refused-1, refused-2, refused-3, records}
+use Rattle.tray.specs.Check.{afterRun, checkRuns, checkTrayAnswer, Sound, Numbered, RightBefore, Says, refused-1, refused-2, refused-3, records}
 
 module _ (t : List ℕ) where
   -- all records of run r are right
@@ -74,8 +73,8 @@ module _ (t : List ℕ) where
           refused-2 _ r q f (record { run = omega arith; inside = omega arith; number = refl })
           (right-before r q (omega arith) fine (λ i l. g i (omega arith) l)) w v
 
-  pub says : Says t (checkTray t)
-  unfolding checkTray
+  pub says : Says t (checkTrayAnswer t)
+  unfolding checkTrayAnswer
   says = go (framed t) refl
     where
       go : (b : Bool) → framed t ≡ b → Says t (cond b (checkRuns (runCount t) t 0) (Refused TrayFrame))
@@ -148,5 +147,5 @@ module _ (t : List ℕ) where
   says-one (records s) (records s′) = refl
 
   -- check tray gives an answer exactly when the table does
-  pub check-says : (a : TrayAnswer) → (checkTray t ≡ a) ↔ Says t a
+  pub check-says : (a : TrayAnswer) → (checkTrayAnswer t ≡ a) ↔ Says t a
   check-says a = (λ e. subst (Says t) e says, λ s. says-one says s)

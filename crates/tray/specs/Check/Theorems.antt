@@ -1,4 +1,4 @@
--- Check tray in the table's words (document 01, "Refusals by number"): each answer exactly when. Assumes nothing.
+-- Check tray in the table's words (docs/RULES.md, "Refusals by number"): each answer exactly when.
 use mathlib.Core.Path.{_≡_, refl, sym, subst}
 use mathlib.Core.Logic.{_↔_}
 use Prim.Native.Nat.{ℕ}
@@ -10,7 +10,7 @@ use Rattle.tray.specs.declared.TrayAnswer.{TrayAnswer}
 use Rattle.tray.specs.declared.TrayAnswer.the-variants.{Records, Refused}
 use Rattle.tray.specs.Frame.{runCount, recordsBefore, runBytes, Framed}
 use Rattle.tray.specs.Run.{recordAt, kindWrong, keyWrong}
-use Rattle.tray.specs.Check.{checkTray, Sound, Numbered, RightBefore, Says, refused-1, refused-2, refused-3, records}
+use Rattle.tray.specs.Check.{checkTrayAnswer, Sound, Numbered, RightBefore, Says, refused-1, refused-2, refused-3, records}
 use Rattle.tray.specs.Check.Laws.{check-says}
 
 module _ (t : List ℕ) where
@@ -29,7 +29,7 @@ module _ (t : List ℕ) where
   WrongKindAt n = (r : ℕ) × (p : ℕ) × First n r p × (kindWrong (recordAt (runBytes t r) p) ≡ true)
 
   -- without a refusal check tray answers the records, and that exactly when the tray is sound
-  pub answers-records : (n : ℕ) → (checkTray t ≡ Records n) ↔ (Sound t × (n ≡ recordsBefore t (runCount t)))
+  pub answers-records : (n : ℕ) → (checkTrayAnswer t ≡ Records n) ↔ (Sound t × (n ≡ recordsBefore t (runCount t)))
   answers-records n = (λ e. from (check-says t (Records n) .0 e) refl, λ s. check-says t (Records n) .1 (subst (λ m. Says t (Records m)) (sym (s .1)) (records (s .0))))
     where
       from : {a : TrayAnswer} → Says t a → a ≡ Records n → Sound t × (n ≡ recordsBefore t (runCount t))
@@ -39,7 +39,7 @@ module _ (t : List ℕ) where
       from (records s) e = (s, cc)
 
   -- 1: the tray breaks the header, count or length rules
-  pub refuses-1 : (checkTray t ≡ Refused TrayFrame) ↔ (Framed t → ⊥)
+  pub refuses-1 : (checkTrayAnswer t ≡ Refused TrayFrame) ↔ (Framed t → ⊥)
   refuses-1 = (λ e. from (check-says t (Refused TrayFrame) .0 e) refl, λ x. check-says t (Refused TrayFrame) .1 (refused-1 x))
     where
       from : {a : TrayAnswer} → Says t a → a ≡ Refused TrayFrame → Framed t → ⊥
@@ -49,7 +49,7 @@ module _ (t : List ℕ) where
       from (records s) e = never (cc)
 
   -- 2: a key is the first thing wrong
-  pub refuses-2 : (n : ℕ) → (checkTray t ≡ Refused (KeyOrder n)) ↔ WrongKeyAt n
+  pub refuses-2 : (n : ℕ) → (checkTrayAnswer t ≡ Refused (KeyOrder n)) ↔ WrongKeyAt n
   refuses-2 n = (
     λ e. from (check-says t (Refused (KeyOrder n)) .0 e) refl,
     λ w. check-says t (Refused (KeyOrder n)) .1 (refused-2 n (w .0) (w .1) (w .2 .frame) (w .2 .numbered) (w .2 .before) (w .3) (w .4)),
@@ -64,7 +64,7 @@ module _ (t : List ℕ) where
       from (records s) e = never (cc)
 
   -- 3: a kind is
-  pub refuses-3 : (n : ℕ) → (checkTray t ≡ Refused (RecordKind n)) ↔ WrongKindAt n
+  pub refuses-3 : (n : ℕ) → (checkTrayAnswer t ≡ Refused (RecordKind n)) ↔ WrongKindAt n
   refuses-3 n = (
     λ e. from (check-says t (Refused (RecordKind n)) .0 e) refl,
     λ w. check-says t (Refused (RecordKind n)) .1 (refused-3 n (w .0) (w .1) (w .2 .frame) (w .2 .numbered) (w .2 .before) (w .3)),

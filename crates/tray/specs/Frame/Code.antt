@@ -1,11 +1,10 @@
 -- What the code of the frame needs of the definitions: each law is a way out of a function, or a turn of its loop.
 --     header-short, header-none, header-many, header-1, header-2, header-3     the header, test by test
 --     Header, header-is                        what a header that fits says
---     Counted, counted-none, counted-more      the counts and starts found so far
---     counted-over, counted-all                a count too high; all counts found
+--     Counted, read-counts-none, read-counts-more      the counts and starts found so far
+--     read-counts-over, read-counts-all                a count too high; all counts found
 --     no-framing, header-wrong, opened         a frame that does not fit, and one that does
 --     Cut, cut                                 a run as the code cuts it out of the tray
--- Assumes nothing.
 use mathlib.Core.Path.{_≡_, refl, sym, ap, ap₂, _∙_, subst}
 use Prim.Native.Nat.{ℕ, suc, _+_, _-_, _*_, _≤_, _<_, suc-le-suc}
 use native.Mathlib.Omega.{arith}
@@ -91,10 +90,10 @@ module _ (t : List ℕ) where
     pub room : length starts ≡ 64
     pub room-counts : length counts ≡ 63
 
-  pub counted-none : {counts : List ℕ} (starts : List ℕ) {at : ℕ} → getD t 0 0 ≤ 63 → at ≡ 4 + 2 * getD t 0 0 → length starts ≡ 64 → length counts ≡ 63
+  pub read-counts-none : {counts : List ℕ} (starts : List ℕ) {at : ℕ} → getD t 0 0 ≤ 63 → at ≡ 4 + 2 * getD t 0 0 → length starts ≡ 64 → length counts ≡ 63
       → Counted counts (set starts 0 at) at 0
   unfolding countsFit runCount
-  counted-none {counts} starts {at} most h l k =
+  read-counts-none {counts} starts {at} most h l k =
       let e : at ≡ startOf t 0 = h ∙ sym (startOf-zero t) in
       record {
         within = omega arith;
@@ -107,10 +106,10 @@ module _ (t : List ℕ) where
         room-counts = k;
       }
 
-  pub counted-more : {counts starts : List ℕ} {at r n i m : ℕ} → Counted counts starts at r → r < getD t 0 0 → getD t 0 0 ≤ 63
+  pub read-counts-more : {counts starts : List ℕ} {at r n i m : ℕ} → Counted counts starts at r → r < getD t 0 0 → getD t 0 0 ≤ 63
       → n ≡ countOf t r → n ≤ 4096 → i ≡ r → m ≡ n → Counted (set counts i n) (set starts (i + 1) (at + 25 * m)) (at + 25 * m) (r + 1)
   unfolding countsFit
-  counted-more {counts} {starts} {at} {r} {n} {i} {m} c l most h fits e z =
+  read-counts-more {counts} {starts} {at} {r} {n} {i} {m} c l most h fits e z =
       let at-is : at ≡ startOf t r = c .stands in
       let low : at ≤ 130 + 102400 * r = c .bounded in
       let long : length starts ≡ 64 = c .room in
@@ -135,9 +134,9 @@ module _ (t : List ℕ) where
       })
 
   -- a count above 4,096 breaks the frame
-  pub counted-over : {r n : ℕ} {f : TrayFrame} → r < getD t 0 0 → n ≡ countOf t r → 4096 < n → NoFrame f → Framing t f
+  pub read-counts-over : {r n : ℕ} {f : TrayFrame} → r < getD t 0 0 → n ≡ countOf t r → 4096 < n → NoFrame f → Framing t f
   unfolding framed runCount
-  counted-over {r} {n} {f} l h over none =
+  read-counts-over {r} {n} {f} l h over none =
       let high : 4096 < countOf t r = omega arith in
       no-framing (none .none ∙ sym (out (headerFits t) _ (countsFit-not t (getD t 0 0) r l high))) none
     where
@@ -151,10 +150,10 @@ module _ (t : List ℕ) where
   header-wrong h none = no-framing (none .none ∙ sym (rw h)) none
 
   -- all counts found: the length decides
-  pub counted-all : {counts starts : List ℕ} {at r h : ℕ} → headerFits t ≡ true → Counted counts starts at r → h ≡ getD t 0 0 → h ≤ r
+  pub read-counts-all : {counts starts : List ℕ} {at r h : ℕ} → headerFits t ≡ true → Counted counts starts at r → h ≡ getD t 0 0 → h ≤ r
       → Framing t (record { fits = eqb at (length t); runs = h; counts = counts; starts = starts })
   unfolding framed runCount
-  counted-all {counts} {starts} {at} {r} {h} fits c e l =
+  read-counts-all {counts} {starts} {at} {r} {h} fits c e l =
       let within : r ≤ getD t 0 0 = c .within in
       let all : r ≡ getD t 0 0 = omega arith in
       let ends : at ≡ startOf t (getD t 0 0) = c .stands ∙ ap (startOf t) all in

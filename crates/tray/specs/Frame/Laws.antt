@@ -1,11 +1,10 @@
 -- Laws of the frame.
 --     upto                                           what holds below n and at n holds below suc n
 --     countsFit-all, all-countsFit, countsFit-not    the test of the counts, and the counts
---     framed-fits, fits-framed                       the frame as a test, and as 01 has it
+--     framed-fits, fits-framed                       the frame as a test, and as the rules have it
 --     recordsBefore-zero, recordsBefore-next, recordsBefore-up, recordsBefore-le     records are counted upward
 --     startOf-zero, startOf-next, startOf-le, startOf-within     where runs start
 --     length-run                                     how long a run is
--- Assumes nothing.
 use mathlib.Core.Path.{_≡_, refl, sym, subst}
 use mathlib.Core.Logic.{⊎-elim}
 use Prim.Native.Nat.{ℕ, zero, suc, _+_, _-_, _*_, _≤_, _<_}

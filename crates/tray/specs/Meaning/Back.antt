@@ -6,7 +6,6 @@
 --     fits-runs                  the runs of a framed tray fit
 --     trayBytes-one              two lists of fitting runs with the same bytes are equal
 --     runsOf-one                 two framed trays with the same runs are equal
--- Assumes nothing.
 use mathlib.Core.Path.{_≡_, refl, sym, ap, _∙_, subst}
 use Prim.Native.Nat.{ℕ, zero, suc, _+_, _*_, _≤_, _<_}
 use native.Mathlib.Nat.{add-zero, zero-add, add-suc, suc-add}

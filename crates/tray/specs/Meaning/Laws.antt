@@ -4,8 +4,7 @@
 --     rises-runOf, runOf-rises                              a run rises exactly when each key is below the next one
 --     runIn, length-runsOf, getElem?-runsOf, runAt-runsOf, runAt-runsOf-past     a tray has H runs, each at its number
 --     mem-runsOf, all-runsOf                                they are its members
---     runs-good, good-sound                                 soundness in 01's words, and the runs that are good
--- Assumes nothing.
+--     runs-good, good-sound                                 soundness in the rules' words, and the runs that are good
 use mathlib.Core.Path.{_≡_}
 use mathlib.Core.Option.{none, some}
 use Prim.Native.Nat.{ℕ, suc, _≤_, _<_}

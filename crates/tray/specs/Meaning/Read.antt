@@ -4,7 +4,6 @@
 --     records-read, run-read     so are the records from a place on, and all of a run
 --     count-read                 a count is read where its two bytes stand
 --     runs-read, read-back       so are the runs from a number on, and all of a tray
--- Assumes nothing.
 use mathlib.Core.Path.{_≡_, refl, sym, _∙_}
 use Prim.Native.Nat.{ℕ, suc, _+_, _-_, _*_, _^_, _≤_, _<_}
 use native.Mathlib.Nat.{add-zero}

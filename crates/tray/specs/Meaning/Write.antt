@@ -4,7 +4,6 @@
 --     bytes-run                            a run of bytes is bytes
 --     header-back, counts-back, runs-back  the parts of a tray
 --     framed-write-back, write-back        the tray, where it is framed, and so where it is sound
--- Assumes nothing.
 use mathlib.Core.Path.{_≡_, refl}
 use Prim.Native.Nat.{ℕ, suc, _+_, _-_, _*_, _≤_, _<_}
 use native.Mathlib.Nat.{zero-add}

@@ -1,11 +1,11 @@
 -- What the code of a run's check needs of the definitions: each law is a way out of a function, or a turn of its loop.
---     no-value-high, no-value-low        sixteen zero bytes, told by their halves
+--     HeadOf, headed                     the head of a record
+--     zero-value-high, zero-value-low        sixteen zero bytes, told by their halves
 --     kind-live, kind-gone, kind-other   a record's kind, told by its byte
 --     Last, last-none, last-more         the key before a place
 --     key-fine, key-bad                  a key, told by the last one
 --     key-is, last-next, run-kind, -key, -next, -live    a turn of the loop over a run
 --     value-is                           a value, written by its halves
--- Assumes nothing.
 use mathlib.Core.Path.{_≡_, refl, sym, ap, ap₂, _∙_}
 use Prim.Native.Nat.{ℕ, zero, suc, _+_, _-_, _*_, _≤_, _<_}
 use native.Mathlib.Omega.{arith}
@@ -18,9 +18,20 @@ use Rattle.number.specs.Big.{be, bytesOf, put}
 use Rattle.number.specs.Big.Laws.{be-add, bytesOf-add, length-bytesOf}
 use Rattle.number.specs.Big.Writes.{put-put}
 use Rattle.theory.specs.Tests.{cases, clash, or-left, or-right}
+use Rattle.theory.specs.Records.{Record}
+use Rattle.tray.specs.declared.Head.{Head}
 use Rattle.tray.specs.declared.RunAnswer.the-variants.{WrongKind, WrongKey}
 use Rattle.tray.specs.Run.{recordFrom, recordAt, kindWrong, keyWrong, place, judgeFrom}
 use Rattle.tray.specs.Run.Laws.{judge-kind, judge-key, judge-next}
+
+-- the head of a record
+pub record HeadOf (e : Head) (whole : Record) : Type 0 where
+  pub key : e .key ≡ whole .key
+  pub kind : e .kind ≡ whole .kind
+
+-- a record of which no more is known
+abbrev pub headed : Head → Record
+headed e = record { key = e .key; kind = e .kind; value = 0 }
 
 -- sixteen bytes as two numbers of eight
 halves : (s : List ℕ) (p : ℕ) → be 16 s p ≡ be 8 s p * 18446744073709551616 + be 8 s (p + 8)
@@ -50,11 +61,11 @@ value-is s p out {at} {high} {low} {first} {second} l e h k fits f g =
     ∙ ap (bytesOf 16) (whole ∙ ap (be 16 s) e)
 
 module _ (s : List ℕ) (p : ℕ) where
-  pub no-value-high : (be 8 s p ≡ 0 → ⊥) → false ≡ eqb (be 16 s p) 0
-  no-value-high h = let e = halves s p in sym (ne-eqb (be 16 s p) 0 (λ z. h (omega arith)))
+  pub zero-value-high : (be 8 s p ≡ 0 → ⊥) → false ≡ eqb (be 16 s p) 0
+  zero-value-high h = let e = halves s p in sym (ne-eqb (be 16 s p) 0 (λ z. h (omega arith)))
 
-  pub no-value-low : be 8 s p ≡ 0 → eqb (be 8 s (p + 8)) 0 ≡ eqb (be 16 s p) 0
-  no-value-low h = let e = halves s p in let z : be 8 s (p + 8) ≡ be 16 s p = omega arith in ap (λ n. eqb n 0) z
+  pub zero-value-low : be 8 s p ≡ 0 → eqb (be 8 s (p + 8)) 0 ≡ eqb (be 16 s p) 0
+  zero-value-low h = let e = halves s p in let z : be 8 s (p + 8) ≡ be 16 s p = omega arith in ap (λ n. eqb n 0) z
 
   pub kind-live : getD s (p + 8) 0 ≡ 0 → true ≡ not (kindWrong (recordFrom s p))
   unfolding kindWrong recordFrom

@@ -3,7 +3,6 @@
 --     Fine, Judged, judged                            what the answer says of the run
 --     fine-sound, sound-fine                          a record that is not wrong is sound, and the other way round
 --     key-rises, rises-key, first-key                 a key that is not wrong is above the one before it, if there is one
--- Assumes nothing.
 use mathlib.Core.Path.{_≡_, refl, subst}
 use mathlib.Core.Logic.{⊎-elim}
 use Prim.Native.Nat.{ℕ, zero, suc, _+_, _-_, _≤_, _<_}

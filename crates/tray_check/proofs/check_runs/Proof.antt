@@ -1,5 +1,5 @@
 -- `tray_check::check_runs` meets its contract. Invariant: the runs before run r are right, and what is left to judge answers for the whole
--- tray. Measure: the runs left. `cut` says that the stretch handed on is run r. Assumes nothing.
+-- tray. Measure: the runs left. `cut` says that the stretch handed on is run r.
 use Rattle.tray.specs.Run.{judgeRun}
 use mathlib.Core.Path.{ap, _∙_}
 use native.Mathlib.Omega.{arith}
@@ -19,8 +19,8 @@ abbrev μ-loop : tie.MeasureT-loop
 loop-holds : tie.Need-loop-holds Inv-loop μ-loop
 loop-holds c = judging-none _
 
-wide-size-requires : tie.Need-wide-size-requires Inv-loop μ-loop
-wide-size-requires c κs = search needs
+usize-of-u8-requires : tie.Need-usize-of-u8-requires Inv-loop μ-loop
+usize-of-u8-requires c κs = search needs
 
 mul-n : tie.Need-mul-n Inv-loop μ-loop
 mul-n c = search needs
@@ -47,41 +47,41 @@ sub-check-run : tie.Need-sub-check-run Inv-loop μ-loop
 sub-check-run c =
     let loop-test = c .before .loop-test in
     let opened = c .before .before .before .before .before .before .pre in
-    let k = cut-run _ opened (loop-test .taken) (c .wide-size .ensures) in omega (arith, k .part .start)
+    let k = cut-run _ opened (loop-test .taken) (c .usize-of-u8 .ensures) in omega (arith, k .part .start)
 
 part-check-run-start : tie.Need-part-check-run-start Inv-loop μ-loop
 part-check-run-start c =
     let loop-test = c .before .loop-test in
     let opened = c .before .before .before .before .before .before .pre in
-    let k = cut-run _ opened (loop-test .taken) (c .wide-size .ensures) in k .part .start
+    let k = cut-run _ opened (loop-test .taken) (c .usize-of-u8 .ensures) in k .part .start
 
 part-check-run-end : tie.Need-part-check-run-end Inv-loop μ-loop
 part-check-run-end c =
     let loop-test = c .before .loop-test in
     let opened = c .before .before .before .before .before .before .pre in
-    let k = cut-run _ opened (loop-test .taken) (c .wide-size .ensures) in k .part .end
+    let k = cut-run _ opened (loop-test .taken) (c .usize-of-u8 .ensures) in k .part .end
 
 check-run-requires : tie.Need-check-run-requires Inv-loop μ-loop
 check-run-requires c κs =
-    let wide-size = c .before .wide-size in
+    let usize-of-u8 = c .before .usize-of-u8 in
     let loop-test = c .before .before .loop-test in
     let opened = c .before .before .before .before .before .before .before .pre in
-    let k = cut-run _ opened (loop-test .taken) (wide-size .ensures) in k .whole
+    let k = cut-run _ opened (loop-test .taken) (usize-of-u8 .ensures) in k .whole
 
 enum-told : tie.Need-enum-told Inv-loop μ-loop
 enum-told c = search needs
 
-size16-requires : tie.Need-size16-requires Inv-loop μ-loop
-size16-requires c κs = search needs
+usize-of-u16-requires : tie.Need-usize-of-u16-requires Inv-loop μ-loop
+usize-of-u16-requires c κs = search needs
 
 add-before : tie.Need-add-before Inv-loop μ-loop
 add-before c =
     let back = c .before .before .before .before .before in
-    let wide-size = back .wide-size in
+    let usize-of-u8 = back .usize-of-u8 in
     let loop-test = back .before .loop-test in
     let loop = back .before .before .loop in
     let opened = back .before .before .before .before .before .before .pre in
-    let k = cut-run _ opened (loop-test .taken) (wide-size .ensures) in omega (arith, k .few, loop .inv .low, c .size16 .ensures, opened .few)
+    let k = cut-run _ opened (loop-test .taken) (usize-of-u8 .ensures) in omega (arith, k .few, loop .inv .low, c .usize-of-u16 .ensures, opened .few)
 
 add-r : tie.Need-add-r Inv-loop μ-loop
 add-r c = search needs
@@ -94,11 +94,11 @@ loop-again c =
     let enum-told = c .before .enum-told in
     let back = c .before .before .before in
     let check-run = back .check-run in
-    let wide-size = back .before .before .wide-size in
+    let usize-of-u8 = back .before .before .usize-of-u8 in
     let loop-test = back .before .before .before .loop-test in
     let loop = back .before .before .before .before .loop in
     let opened = back .before .before .before .before .before .before .before .before .pre in
-    let k = cut-run _ opened (loop-test .taken) (wide-size .ensures) in
+    let k = cut-run _ opened (loop-test .taken) (usize-of-u8 .ensures) in
     judging-more _
     (loop .inv)
     (k .inside)
@@ -106,13 +106,13 @@ loop-again c =
     (k .records)
     (enum-told .given .1)
     (k .few)
-    (c .size16 .ensures)
+    (c .usize-of-u16 .ensures)
 
 enum-known-p : tie.Need-enum-known-p Inv-loop μ-loop
 enum-known-p c = search needs
 
-size16-requires-2 : tie.Need-size16-requires-2 Inv-loop μ-loop
-size16-requires-2 c κs = search needs
+usize-of-u16-requires-2 : tie.Need-usize-of-u16-requires-2 Inv-loop μ-loop
+usize-of-u16-requires-2 c κs = search needs
 
 add-t31 : tie.Need-add-t31 Inv-loop μ-loop
 add-t31 c = search needs
@@ -123,18 +123,18 @@ returns c =
     let p = back .p in
     let back = back .before .before in
     let check-run = back .check-run in
-    let wide-size = back .before .before .wide-size in
+    let usize-of-u8 = back .before .before .usize-of-u8 in
     let loop-test = back .before .before .before .loop-test in
     let loop = back .before .before .before .before .loop in
     let opened = back .before .before .before .before .before .before .before .before .pre in
-    let k = cut-run _ opened (loop-test .taken) (wide-size .ensures) in
+    let k = cut-run _ opened (loop-test .taken) (usize-of-u8 .ensures) in
     judged-kind _ (loop .inv) (k .inside) (check-run .ensures ∙ ap (judgeRun _) (k .part .bytes)) (k .records) (p .given .1) (omega arith)
 
 enum-known-p-2 : tie.Need-enum-known-p-2 Inv-loop μ-loop
 enum-known-p-2 c = search needs
 
-size16-requires-3 : tie.Need-size16-requires-3 Inv-loop μ-loop
-size16-requires-3 c κs = search needs
+usize-of-u16-requires-3 : tie.Need-usize-of-u16-requires-3 Inv-loop μ-loop
+usize-of-u16-requires-3 c κs = search needs
 
 add-t35 : tie.Need-add-t35 Inv-loop μ-loop
 add-t35 c = search needs
@@ -145,11 +145,11 @@ returns-2 c =
     let p2 = back .p2 in
     let back = back .before .before in
     let check-run = back .check-run in
-    let wide-size = back .before .before .wide-size in
+    let usize-of-u8 = back .before .before .usize-of-u8 in
     let loop-test = back .before .before .before .loop-test in
     let loop = back .before .before .before .before .loop in
     let opened = back .before .before .before .before .before .before .before .before .pre in
-    let k = cut-run _ opened (loop-test .taken) (wide-size .ensures) in
+    let k = cut-run _ opened (loop-test .taken) (usize-of-u8 .ensures) in
     judged-key _ (loop .inv) (k .inside) (check-run .ensures ∙ ap (judgeRun _) (k .part .bytes)) (k .records) (p2 .given .1) (omega arith)
 
 returns-3 : tie.Need-returns-3 Inv-loop μ-loop
@@ -164,7 +164,7 @@ check-runs-spec =
     Inv-loop
     μ-loop
     loop-holds
-    wide-size-requires
+    usize-of-u8-requires
     mul-n
     array-read-n
     mul-a
@@ -177,17 +177,17 @@ check-runs-spec =
     part-check-run-end
     check-run-requires
     enum-told
-    size16-requires
+    usize-of-u16-requires
     add-before
     add-r
     loop-less
     loop-again
     enum-known-p
-    size16-requires-2
+    usize-of-u16-requires-2
     add-t31
     returns
     enum-known-p-2
-    size16-requires-3
+    usize-of-u16-requires-3
     add-t35
     returns-2
     returns-3)

@@ -1,4 +1,4 @@
--- `tray_check::check_tray` meets its contract: the frame decides whether the runs are judged. Assumes nothing.
+-- `tray_check::check_tray` meets its contract: the frame decides whether the runs are judged.
 use Rattle.tray.specs.Check.Code.{check-judged, check-frame}
 use Rattle.tray.specs.Frame.Code.{opened}
 use mathlib.Core.Path.{sym, _∙_}

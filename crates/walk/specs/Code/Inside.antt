@@ -1,7 +1,6 @@
 -- A record that a seek found stands inside the index: at an unmarked selector of one of its segments, which names it.
 --     Inside, seek-inside      what the seek found
 --     seek-below               so its cursor is not the end
--- Assumes nothing.
 use mathlib.Core.Path.{_≡_, refl, sym, ap, _∙_, subst}
 use Prim.Native.Nat.{ℕ, _-_, _<_}
 use native.Mathlib.Omega.{arith}

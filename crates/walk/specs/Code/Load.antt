@@ -2,7 +2,6 @@
 --     loadedFrom, loaded-is          the places on entering the segment that starts at a byte
 --     Loading, loading-none, loading-more, loading-end     the runs from r on are loaded
 --     Clearing, clearing-.., reloading-..     the same into numbers that are lent
--- Assumes nothing.
 use mathlib.Core.Path.{_≡_, refl, sym, ap, _∙_, subst}
 use Prim.Native.Nat.{ℕ, zero, suc, _+_, _-_, _≤_, _<_}
 use native.Mathlib.Numerals.{add-one}

@@ -1,5 +1,4 @@
--- The moves of a cursor over a selector (document 01, "Walk"): passing a record raises its run's place by one.
--- Assumes nothing.
+-- The moves of a cursor over a selector (docs/RULES.md, "Walk"): passing a record raises its run's place by one.
 use mathlib.Core.Path.{_≡_, refl, sym, ap, subst}
 use Prim.Native.Nat.{ℕ, _+_, _<_}
 use mathlib.Core.List.{List}

@@ -2,7 +2,6 @@
 --     Stands                                a selector and where it stands
 --     selectors-stayed, segments-stayed     what holds wherever a visitor stays
 --     walk-stays                            a walk from where its visitor stays is there
--- Assumes nothing.
 use mathlib.Core.Path.{_≡_, refl, sym, ap, _∙_}
 use Prim.Native.Nat.{ℕ, zero, suc, _+_, _-_, _≤_, _<_}
 use native.Mathlib.Omega.{arith}

@@ -5,7 +5,6 @@
 --     Here                                   the walk from here answers for the whole
 --     here-at, here-from, here-whole         from a spot or a cursor on
 --     here-end, here-enter                   after the last segment, into the next one
--- Assumes nothing.
 use mathlib.Core.Path.{_≡_, refl, sym, ap, ap₂, _∙_}
 use Prim.Native.Nat.{ℕ, suc, _+_, _-_, _*_, _%_, _≤_, _<_}
 use native.Mathlib.Omega.{arith}

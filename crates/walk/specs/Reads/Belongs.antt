@@ -1,10 +1,9 @@
--- Which cursors belong to an accepted index (document 01, "Reading through an index"): exactly those that stand at a record of the view, at a
--- placeholder behind a segment's records, or at the end.
+-- Which cursors belong to an accepted index (docs/RULES.md, "Reading through an index"): exactly those that stand at a record of the view, at a
+-- placeholder after a segment's records, or at the end.
 --     same-places                        places that are the same, place by place, are equal
 --     piece-belongs                      the cursor at a selector of a segment
 --     stop-belongs, standing-belongs     where a cursor stands, it belongs
 --     belongs-standing                   and where it belongs, it stands
--- Assumes nothing.
 use mathlib.Core.Path.{_≡_, refl, sym, ap, _∙_, subst}
 use mathlib.Core.Logic.{⊎-elim}
 use Prim.Native.Nat.{ℕ, zero, suc, _+_, _-_, _≤_, _<_}
@@ -85,7 +84,7 @@ module _ {t x : List ℕ} (r : Reading t x) where
   standing-belongs at-end =
       or-left _ _ (and-true (eq-eqb (segmentCount x) (segmentCount x) refl) (and-true refl (same-itself (replicate 63 0) 63)))
 
-  -- the cursor at selector s of a segment stands at a record, or behind them all
+  -- the cursor at selector s of a segment stands at a record, or after them all
   piece-standing : {k g : ℕ} {b own left : List Item} → Piece t x k g b own left → (us : List Stop)
       → spots t x ≡ us ++ (spotsIn g 0 b own ++ spotsFrom t x k (g + 1) (b ++ own) left) → (s : ℕ) → s < sizeOf x
       → (ps : List Stop) × Standing t x (spotAt g s (b ++ take s own)) ps

@@ -1,7 +1,6 @@
 -- The visible stops rise by key, so those from a key on are the last ones.
 --     keyAt, shown-rises     a stop's key, and that the visible ones rise by it
 --     from-on                those from a key on are the last ones
--- Assumes nothing.
 use mathlib.Core.Path.{_≡_, refl, sym, ap, subst}
 use Prim.Native.Nat.{ℕ}
 use native.Mathlib.Omega.{arith}

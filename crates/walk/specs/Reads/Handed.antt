@@ -1,11 +1,10 @@
--- Every cursor that a walk hands back belongs, whatever the index says (document 01, "Reading through an index": each place is the offset plus
+-- Every cursor that a walk hands back belongs, whatever the index says (docs/RULES.md, "Reading through an index": each place is the offset plus
 -- that run's selectors earlier in the segment).
 --     places-first, places-gap, places-raised     the places of a walk are those of a cursor that belongs
 --     Stands                                      a spot is a selector of a segment, with these places
 --     selectors-stand, segments-stand, from-stands     where a walk stays, it stands
 --     stands-belongs, end-belongs                 what stands belongs, and so does the end
 --     belongs-stands                              what belongs and is not the end stands
--- Assumes nothing.
 use mathlib.Core.Path.{_≡_, refl, sym, ap, _∙_, subst}
 use Prim.Native.Nat.{ℕ, zero, suc, _+_, _-_, _%_, _≤_, _<_}
 use native.Mathlib.Omega.{arith}

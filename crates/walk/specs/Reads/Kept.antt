@@ -4,7 +4,6 @@
 --     keep-none       nothing, where no member passes
 --     keep-both       by two tests, one after the other
 --     keep-split      what is kept, taken apart, takes the list apart
--- Assumes nothing.
 use mathlib.Core.Path.{_≡_, refl, sym, ap, _∙_}
 use mathlib.Core.Bool.{Bool, true, false, cond, _&&_}
 use mathlib.Core.List.{List, [], _∷_, _++_, map, head-eq-of-cons-eq, tail-eq-of-cons-eq}

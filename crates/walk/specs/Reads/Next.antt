@@ -1,11 +1,10 @@
--- Next through an accepted index: from a record on to the next visible one (document 01, "Reading through an index").
+-- Next through an accepted index: from a record on to the next visible one (docs/RULES.md, "Reading through an index").
 --     next-spots              from any stop
 --     next-gap                from a placeholder
 --     next-shown, next-is     from a visible record to the next one, or the end
 --     next-end                from the end, the end
 --     Goes, all-by-next       from the first on by next: exactly the visible records, and then the end
 --     from-by-next            the same from any key on
--- Assumes nothing.
 use mathlib.Core.Path.{_≡_, refl, sym, ap, _∙_, subst}
 use Prim.Native.Nat.{ℕ, _+_, _<_, _≤_}
 use native.Mathlib.Omega.{arith}
@@ -82,7 +81,7 @@ module _ {t x : List ℕ} (r : Reading t x) where
       each-both (stop-order r) (all-each (spots t x) (stop-shows r)) (λ p qs late shows. (late, shows .1)) in
       each-both (walk-spots r ℕ Found) both (λ p qs walks b. next-stop p qs walks (b .0) (b .1))
 
-  -- from a placeholder behind a segment's records
+  -- from a placeholder after a segment's records
   pub next-gap : {k g s : ℕ} {b own left : List Item} (us : List Stop) {qs : List Stop} → Piece t x k g b own left → length own ≤ s → s < sizeOf x
       → qs ≡ spotsFrom t x k (g + 1) (b ++ own) left → spots t x ≡ us ++ qs → next t x (spotAt g s (b ++ own)) ≡ firstOf foundAt (keep (isShown t) qs) 0
   unfolding next

@@ -1,4 +1,4 @@
--- A page through an accepted index (document 01, "Reading through an index"): the first visible records from its cursor on that fit, 24 bytes
+-- A page through an accepted index (docs/RULES.md, "Reading through an index"): the first visible records from its cursor on that fit, 24 bytes
 -- each, in order; then the cursor of the first unwritten one, or the end. Nothing else of the output changes.
 --     listing, written     the bytes of some records, and an output with them written
 --     listing-append, length-listed, length-listing     end to end, and how long
@@ -6,7 +6,6 @@
 --     room, paged          how many records fit, and what a page of these stops comes to
 --     page-is              a page is that
 -- Not here: pages put together, which are in `Reads/Pages.antt`.
--- Assumes nothing.
 use mathlib.Core.Path.{_≡_, refl, sym, ap, ap₂, _∙_, subst}
 use Prim.Native.Nat.{ℕ, zero, suc, _+_, _*_, _/_, _≤_, _<_}
 use native.Mathlib.Nat.{add-zero}
@@ -61,7 +60,7 @@ unfoldable pub paged : List Stop → List ℕ → Walked Written (Written × Spo
 paged qs out =
     let done = written (map pointOf (take (room out) qs)) out in firstOf (λ p. (done, p .spot)) (drop (room out) qs) done
 
--- bytes written behind others
+-- bytes written after others
 put-behind : (xs ys out : List ℕ) (n m : ℕ) → length xs ≡ n → length ys ≡ m
     → put (xs ++ drop n out) n ys ≡ (xs ++ ys) ++ drop (n + m) out
 unfolding put
@@ -74,7 +73,7 @@ put-behind xs ys out n m p q =
 written-eq : {v w : Written} → v .count ≡ w .count → v .out ≡ w .out → v ≡ w
 written-eq p q = λ i. record { count = p i; out = q i }
 
--- one record more is written behind the others
+-- one record more is written after the others
 pub write-more : (es : List Record) (out : List ℕ) (e : Record) → write e (written es out) ≡ written (es ++ (e ∷ [])) out
 unfolding write written listing
 write-more es out e =

@@ -5,7 +5,6 @@
 --     page-progress                           with 24 bytes of room a page writes a record or says the end
 --     Pages, pages-are                        pages put together
 --     pages-come                              they come to the end
--- Assumes nothing.
 use mathlib.Core.Path.{_≡_, refl, sym, ap, ap₂, _∙_, subst}
 use Prim.Native.Nat.{ℕ, zero, suc, _-_, _*_, _≤_, _<_, min}
 use native.Mathlib.Omega.{arith}

@@ -1,11 +1,10 @@
--- A sheet's bounds are those of its prefix (document 01, "Reading through an index"): a key is at or above the prefix filled with zeros and below
+-- A sheet's bounds are those of its prefix (docs/RULES.md, "Reading through an index"): a key is at or above the prefix filled with zeros and below
 -- the prefix with its last byte raised, filled with zeros, exactly when its 8 bytes begin with the prefix.
 --     low-is, high-is                  the bounds as numbers
 --     high-raised                      the upper bound is the prefix with its last byte raised, filled with zeros
 --     begins-within, within-begins     a key begins with the prefix exactly within the bounds
 --     points-small                     keys of a tray of bytes have 8 bytes
 --     sheet-begins                     so sheet lists the records whose keys begin with the prefix
--- Assumes nothing.
 use mathlib.Core.Path.{_≡_, refl, sym, ap, _∙_, subst}
 use mathlib.Core.Logic.{_↔_}
 use Prim.Native.Nat.{ℕ, zero, suc, _+_, _-_, _*_, _/_, _%_, _^_, _≤_, _<_}

@@ -1,11 +1,10 @@
--- Seek and get through an accepted index are the full merge's (document 01, "Reading through an index").
+-- Seek and get through an accepted index are the full merge's (docs/RULES.md, "Reading through an index").
 --     isFrom, from              the visible stops from a key on
 --     seek-is                   seek stays at the first visible record at or above the key, and ends where there is none
 --     points, points-rise       the live part of the full merge, and that it rises
 --     shown-shows               what the visible stops show
 --     lookup, get-is            get is the value of the key's record in the live part of the merge, or absent
 --     get-found, get-absent     the same from either side
--- Assumes nothing.
 use mathlib.Core.Path.{_≡_, refl, sym, ap, _∙_, subst}
 use mathlib.Core.Logic.{⊎-elim}
 use Prim.Native.Nat.{ℕ, _≤_, _<_}

@@ -1,9 +1,8 @@
 -- The selectors of a right segment one by one, and the places that a cursor at one of them must have.
---     selector-there, selector-gap     a selector that spells a record, and one behind them all
+--     selector-there, selector-gap     a selector that spells a record, and one after them all
 --     record-at                        the record at a selector
 --     selectorsOf-count                the selectors of a run before one are its records before it
 --     placesAt-are                     so the places are those after the records before it
--- Assumes nothing.
 use mathlib.Core.Path.{_≡_, refl, sym, ap, ap₂, _∙_}
 use Prim.Native.Nat.{ℕ, zero, suc, _+_, _-_, _%_, _≤_, _<_}
 use native.Mathlib.Nat.{zero-add, add-zero}

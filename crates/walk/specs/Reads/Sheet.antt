@@ -1,9 +1,9 @@
--- Sheet through an accepted index (document 01, "Reading through an index"): the live records of the merge from the lower bound on and below the
+-- Sheet through an accepted index (docs/RULES.md, "Reading through an index"): the live records of the merge from the lower bound on and below the
 -- upper one, in order.
 --     within       a record within bounds
 --     Lists        a walk that came through, and what it has listed
 --     sheet-is     what sheet lists
--- Not here: that the bounds are those of a prefix, which is in `Reads/Prefix.antt`. Assumes nothing.
+-- Not here: that the bounds are those of a prefix, which is in `Reads/Prefix.antt`.
 use mathlib.Core.Path.{_≡_, refl, sym, ap, _∙_, subst}
 use Prim.Native.Nat.{ℕ, _≤_}
 use native.Mathlib.Omega.{arith}

@@ -4,7 +4,6 @@
 --     Shows, stop-shows                its selector names its record, and has no mark exactly where that is visible
 --     isShown, shown, shown-merged     the stops with visible records, and that these are the live ones of the full merge
 --     pointOf                          a stop's record
--- Assumes nothing.
 use mathlib.Core.Path.{_≡_, refl, sym, ap, ap₂, _∙_}
 use Prim.Native.Nat.{ℕ, _+_, _%_}
 use mathlib.Core.Bool.{Bool}

@@ -1,10 +1,9 @@
--- Where a cursor can stand in an accepted index: at a record of the view, behind a segment's records at a placeholder, or at the end; and what
+-- Where a cursor can stand in an accepted index: at a record of the view, after a segment's records at a placeholder, or at the end; and what
 -- a walk from there on visits.
 --     Standing          where a cursor stands, with the stops from there on
 --     walk-standing     the walk from there on visits these
 --     standing-on       they are the last ones of the index
 --     standing-kept     of the visible ones, any is where its cursor stands
--- Assumes nothing.
 use mathlib.Core.Path.{_≡_, sym, ap, _∙_}
 use Prim.Native.Nat.{ℕ, _+_, _≤_, _<_}
 use native.Mathlib.Omega.{arith}

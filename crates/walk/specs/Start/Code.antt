@@ -1,9 +1,8 @@
 -- What the code of the search needs of the definitions.
 --     Probing                          the index as the code has it
 --     Probes, probes-start, probes-above, probes-below, probes-end    the loop begins, goes on and ends
---     middle-is                        the middle, reckoned so that no sum passes its type
+--     middle-is                        the middle, computed so that no sum passes its type
 --     anchor-inside                    a probed anchor lies in the index
--- Assumes nothing.
 use mathlib.Core.Path.{_≡_, refl, sym, ap, ap₂, _∙_}
 use Prim.Native.Nat.{ℕ, zero, suc, pred, _+_, _-_, _*_, _/_, _≤_, _<_}
 use native.Mathlib.Omega.{arith}

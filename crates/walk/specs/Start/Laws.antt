@@ -3,7 +3,6 @@
 --     probe-enough                       as many probes as segments are enough
 --     start-le, start-low                the same of the start
 --     before-start                       every record before the start has a key below the one asked for
--- Assumes nothing.
 use mathlib.Core.Path.{_≡_, refl, sym, subst}
 use mathlib.Core.Logic.{_⊎_, inl, inr, ⊎-elim}
 use Prim.Native.Nat.{ℕ, zero, suc, pred, _+_, _-_, _/_, _≤_, _<_}

@@ -8,7 +8,6 @@
 --     piece-fits                         a segment has no more records than selectors
 --     AtEach, each-in                    a property of each record of a segment at its stop
 --     WalksOn, walk-spots, walk-from     from any stop on
--- Assumes nothing.
 use mathlib.Core.Path.{_≡_, refl, sym, ap, _∙_, subst₂}
 use Prim.Native.Nat.{ℕ, zero, suc, _+_, _-_, _≤_}
 use native.Mathlib.Nat.{add-zero}

@@ -3,7 +3,6 @@
 --     selector-run, selector-spells       its run; it is no placeholder
 --     selector-named, selector-record     it names a record, and that record
 --     selector-unmarked                   it has no mark exactly where the record is visible
--- Assumes nothing.
 use mathlib.Core.Path.{_≡_, sym, ap, _∙_}
 use Prim.Native.Nat.{ℕ, _+_, _%_, _<_}
 use native.Mathlib.Omega.{arith}

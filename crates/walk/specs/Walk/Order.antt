@@ -2,7 +2,6 @@
 --     in-segment, in-selector     the stops of a segment have its number, and selectors from the first on
 --     from-segment                the stops from a segment on have its number or a higher one
 --     After, stop-order           each stop, and those that follow it
--- Assumes nothing.
 use mathlib.Core.Path.{_≡_, ap}
 use mathlib.Core.Logic.{⊎-elim}
 use Prim.Native.Nat.{ℕ, zero, suc, _+_, _≤_, _<_}
@@ -38,7 +37,7 @@ from-segment t x (suc k) g b w p m =
     ⊎-elim (λ n. omega (arith, in-segment g 0 b (take (spells t x g) w) p n))
     (λ n. omega (arith, from-segment t x k (g + 1) _ _ p n)) (List·Memᴰ·append-cases (spotsIn g 0 b (take (spells t x g) w)) m)
 
--- in its own segment the second cursor stands behind the first
+-- in its own segment the second cursor stands after the first
 abbrev pub After : Spot → Spot → Type 0
 After c d = d .segment ≡ c .segment → c .selector < d .selector
 

@@ -7,7 +7,6 @@
 --     piece-ended, piece-spelled                 its selectors spell its records, and then come placeholders
 --     OfPieces, each-from, each-spots            a property of each stop, piece by piece
 --     all-spelt, entries-from, entries-spots     all segments spell the view, and the records at the stops are the view
--- Assumes nothing.
 use mathlib.Core.Path.{_≡_, refl, sym, ap, _∙_, subst}
 use Prim.Native.Nat.{ℕ, zero, suc, _+_, _≤_, _<_}
 use native.Mathlib.Nat.{zero-add}

@@ -2,7 +2,6 @@
 --     Reached, reach     the records and stops before segment g, and those from it on
 --     walk-reached       the walk from there on visits the stops from there on
 --     before-anchor      every key before a segment is below its anchor
--- Assumes nothing.
 use mathlib.Core.Path.{_≡_, refl, sym, ap, _∙_, subst}
 use mathlib.Core.Logic.{⊎-elim}
 use Prim.Native.Nat.{ℕ, zero, suc, _+_, _≤_, _<_}

@@ -5,7 +5,6 @@
 --     walk-passed, walk-visits     one selector: a placeholder, and one that names a record
 --     walk-filled                  only placeholders
 --     walk-segment                 the records that are spelled, and then placeholders
--- Assumes nothing.
 use mathlib.Core.Path.{_≡_, refl, sym, ap, _∙_}
 use Prim.Native.Nat.{ℕ, zero, suc, _+_, _%_}
 use native.Mathlib.Omega.{arith}

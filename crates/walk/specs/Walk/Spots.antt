@@ -1,4 +1,4 @@
--- Where a walk through an accepted index stands at each record of the view: its stops (document 01, "Reading through an index"). The cursor at a
+-- Where a walk through an accepted index stands at each record of the view: its stops (docs/RULES.md, "Reading through an index"). The cursor at a
 -- record has its segment, its selector there, and the places after all records before it.
 --     Reading                      a sound tray and an index that is accepted for it
 --     check-reading                what check index accepts
@@ -6,7 +6,6 @@
 --     spells, spotsFrom, spots     of segments in a row, and of the whole index
 --     spotsIn-append               the records of a segment in two parts
 --     entriesOf, entries-in        the records at the stops
--- Assumes nothing.
 use mathlib.Core.Path.{_≡_, refl, ap}
 use Prim.Native.Nat.{ℕ, zero, suc, _+_}
 use native.Mathlib.Nat.{add-zero}
@@ -21,7 +20,7 @@ use Rattle.tray.specs.Meaning.{runsOf}
 use Rattle.index.specs.Layout.{segmentCount, segmentOf, segmentsOf, IndexFramed}
 use Rattle.index.specs.Rules.{keyOf, Item, spelled, Accepted}
 use Rattle.index.specs.declared.IndexAnswer.the-variants.{Segments}
-use Rattle.index.specs.Check.{checkIndex}
+use Rattle.index.specs.Check.{checkIndexAnswer}
 use Rattle.index.specs.Check.Theorems.{answers-segments}
 use Rattle.index.specs.Scan.Places.{placesOf}
 use Rattle.walk.specs.Walk.{Spot}
@@ -33,7 +32,7 @@ pub record Reading (t x : List ℕ) : Type 0 where
   pub accepted : Accepted (runsOf t) (segmentsOf (runCount t) x)
 
 -- check index accepts exactly what may be read
-pub check-reading : (t x : List ℕ) (n : ℕ) → checkIndex t x ≡ Segments n → Reading t x
+pub check-reading : (t x : List ℕ) (n : ℕ) → checkIndexAnswer t x ≡ Segments n → Reading t x
 check-reading t x n e =
     let w = answers-segments t x n .0 e in record { sound = w .0; frame = w .1; accepted = w .2 }
 

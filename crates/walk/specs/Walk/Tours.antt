@@ -8,7 +8,6 @@
 --     firstOf, tour-first            a visitor that only looks for a stop: the first that passes its test
 --     Each, each-append, each-at     a property of each member of a list and what follows it
 --     each-keep, each-on, each-both, each-all, all-each     the same of what is kept, of a later part, of two properties, and of all members
--- Assumes nothing.
 use mathlib.Core.Path.{_≡_, refl, subst}
 use mathlib.Core.Bool.{Bool, true, false, cond}
 use mathlib.Core.List.{List, [], _∷_, _++_, head-eq-of-cons-eq, tail-eq-of-cons-eq}

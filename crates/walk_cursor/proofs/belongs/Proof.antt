@@ -1,14 +1,9 @@
--- `walk_cursor::belongs` meets its contract. Assumes nothing.
+-- `walk_cursor::belongs` meets its contract.
 use Rattle.walk_cursor.specs.Standing.{belongs-there, belongs-past, belongs-beyond, belongs-inner, belongs-end}
 use borrow.Author.Needs.{needs}
 use Rattle.walk_cursor.proofs.belongs.Statement.{statement}
 use Rattle.walk_cursor.proofs.belongs.Tie as tie
-use Rattle.walk_cursor.proofs.belongs.Reads as reads
-use Rattle.walk_cursor.proofs.belongs.Lts as lts
-use Rattle.walk_cursor.proofs.none_from.Reads as none-from-reads
-use Rattle.walk_cursor.proofs.stands.Reads as stands-reads
 
--- src/standing.rt:121:13
 stands-requires : tie.Need-stands-requires
 stands-requires c κs =
     let if1 = c .before .if1 in
@@ -16,7 +11,6 @@ stands-requires c κs =
     let probing = c .before .before .before .pre .0 in
     (probing, (pre .1, if1 .taken, c .if2 .taken))
 
--- src/standing.rt:121:13
 returns : tie.Need-returns
 returns c =
     let if2 = c .before .if2 in
@@ -24,18 +18,15 @@ returns c =
     let probing = c .before .before .before .before .pre .0 in
     belongs-there probing _ (if1 .taken) (if2 .taken) (c .stands .ensures)
 
--- src/standing.rt:123:9
 returns-2 : tie.Need-returns-2
 returns-2 c =
     let if1 = c .before .if1 in
     let probing = c .before .before .before .pre .0 in
     belongs-past probing _ (if1 .taken) (c .if2 .left)
 
--- src/standing.rt:127:13
 none-from-requires : tie.Need-none-from-requires
 none-from-requires c κs = search needs
 
--- src/standing.rt:127:13
 returns-3 : tie.Need-returns-3
 returns-3 c =
     let if4 = c .before .if4 in
@@ -44,7 +35,6 @@ returns-3 c =
     let probing = c .before .before .before .before .before .pre .0 in
     belongs-end probing _ (if1 .left) (if3 .taken) (if4 .taken) (c .none-from .ensures)
 
--- src/standing.rt:113:1
 returns-4 : tie.Need-returns-4
 returns-4 c =
     let if3 = c .before .if3 in
@@ -52,7 +42,6 @@ returns-4 c =
     let probing = c .before .before .before .before .pre .0 in
     belongs-inner probing _ (if1 .left) (if3 .taken) (c .if4 .left)
 
--- src/standing.rt:113:1
 returns-5 : tie.Need-returns-5
 returns-5 c =
     let if1 = c .before .if1 in

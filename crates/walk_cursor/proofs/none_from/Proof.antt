@@ -1,4 +1,4 @@
--- `walk_cursor::none_from` meets its contract. Assumes nothing.
+-- `walk_cursor::none_from` meets its contract.
 use Rattle.walk_cursor.specs.Standing.{noneFor, none-turn, none-end}
 use lib.Dec.{eqb}
 use Prim.Native.Nat.{_-_, _≤_}
@@ -8,9 +8,6 @@ use native.Mathlib.Omega.{arith}
 use borrow.Author.Needs.{needs}
 use Rattle.walk_cursor.proofs.none_from.Statement.{statement}
 use Rattle.walk_cursor.proofs.none_from.Tie as tie
-use Rattle.walk_cursor.proofs.none_from.Reads as reads
-use Rattle.walk_cursor.proofs.none_from.Lts as lts
-use Rattle.walk_cursor.proofs.higher.Reads as higher-reads
 
 abbrev Inv-loop : tie.InvT-loop
 Inv-loop places from top₀ r₀ top r = (r ≤ 63) × ((eqb top 0 && noneFor (63 - r) places r) ≡ noneFor (63 - r₀) places r₀)
@@ -18,37 +15,29 @@ Inv-loop places from top₀ r₀ top r = (r ≤ 63) × ((eqb top 0 && noneFor (6
 abbrev μ-loop : tie.MeasureT-loop
 μ-loop places from top₀ r₀ top r = 63 - r
 
--- src/standing.rt:56:5
 loop-holds : tie.Need-loop-holds Inv-loop μ-loop
 loop-holds c = (omega arith, refl)
 
--- src/standing.rt:57:27
 mul-higher : tie.Need-mul-higher Inv-loop μ-loop
 mul-higher c = omega arith
 
--- src/standing.rt:57:27
 element-copy-out-higher : tie.Need-element-copy-out-higher Inv-loop μ-loop
 element-copy-out-higher c = omega arith
 
--- src/standing.rt:57:9
 higher-requires : tie.Need-higher-requires Inv-loop μ-loop
 higher-requires c κs = search needs
 
--- src/standing.rt:58:9
 add-r : tie.Need-add-r Inv-loop μ-loop
 add-r c = omega arith
 
--- src/standing.rt:56:5
 loop-less : tie.Need-loop-less Inv-loop μ-loop
 loop-less c = omega arith
 
--- src/standing.rt:56:5
 loop-again : tie.Need-loop-again Inv-loop μ-loop
 loop-again c =
     let loop = c .before .before .before .loop in
     (omega arith, none-turn _ _ (omega arith) (c .higher .ensures) ∙ loop .inv .1)
 
--- src/standing.rt:50:1
 returns : tie.Need-returns Inv-loop μ-loop
 returns c =
     let loop = c .before .loop in

@@ -1,61 +1,46 @@
--- `walk_cursor::stands` meets its contract. Assumes nothing.
+-- `walk_cursor::stands` meets its contract.
 use Rattle.walk_cursor.specs.Standing.{segment-inside, stands-told, stands-off}
 use mathlib.Core.Path.{sym}
 use native.Mathlib.Omega.{arith}
 use borrow.Author.Needs.{needs}
 use Rattle.walk_cursor.proofs.stands.Statement.{statement}
 use Rattle.walk_cursor.proofs.stands.Tie as tie
-use Rattle.walk_cursor.proofs.stands.Reads as reads
-use Rattle.walk_cursor.proofs.stands.Lts as lts
-use Rattle.index.proofs.frame.segment_at.Reads as segment-at-reads
-use Rattle.walk_cursor.proofs.none_from.Reads as none-from-reads
-use Rattle.walk_cursor.proofs.places_hold.Reads as places-hold-reads
-use Rattle.walk_cursor.proofs.tally.Reads as tally-reads
-use Rattle.number.proofs.wide_size.Reads as wide-size-reads
 
--- src/standing.rt:103:9
 segment-at-requires : tie.Need-segment-at-requires
 segment-at-requires c κs = search needs
 
--- src/standing.rt:104:9
-wide-size-requires : tie.Need-wide-size-requires
-wide-size-requires c κs = search needs
+usize-of-u8-requires : tie.Need-usize-of-u8-requires
+usize-of-u8-requires c κs = search needs
 
--- src/standing.rt:105:25
 add-tally : tie.Need-add-tally
 add-tally c =
     let segment-at = c .before .segment-at in
     let pre = c .before .before .before .pre in
     let probing = c .before .before .before .pre .0 in
-    omega (arith, segment-inside probing (pre .1 .1) (segment-at .ensures), c .wide-size .ensures)
+    omega (arith, segment-inside probing (pre .1 .1) (segment-at .ensures), c .usize-of-u8 .ensures)
 
--- src/standing.rt:105:34
 mul-tally : tie.Need-mul-tally
-mul-tally c = omega (arith, c .wide-size .ensures)
+mul-tally c = omega (arith, c .usize-of-u8 .ensures)
 
--- src/standing.rt:105:25
 add-tally-2 : tie.Need-add-tally-2
 add-tally-2 c =
     let segment-at = c .before .segment-at in
     let pre = c .before .before .before .pre in
     let probing = c .before .before .before .pre .0 in
-    omega (arith, segment-inside probing (pre .1 .1) (segment-at .ensures), c .wide-size .ensures)
+    omega (arith, segment-inside probing (pre .1 .1) (segment-at .ensures), c .usize-of-u8 .ensures)
 
--- src/standing.rt:105:16
 tally-requires : tie.Need-tally-requires
 tally-requires c κs =
     let segment-at = c .before .segment-at in
     let pre = c .before .before .before .pre in
     let probing = c .before .before .before .pre .0 in
-    omega (arith, segment-inside probing (pre .1 .1) (segment-at .ensures), c .wide-size .ensures)
+    omega (arith, segment-inside probing (pre .1 .1) (segment-at .ensures), c .usize-of-u8 .ensures)
 
--- src/standing.rt:106:30
 slice-aggregate-places-hold : tie.Need-slice-aggregate-places-hold
 slice-aggregate-places-hold c =
     let tally = c .before .tally in
     sym (tally .ensures .room)
 
--- src/standing.rt:106:8
 places-hold-requires : tie.Need-places-hold-requires
 places-hold-requires c κs =
     let tally = c .before .tally in
@@ -64,13 +49,11 @@ places-hold-requires c κs =
     let probing = c .before .before .before .before .before .pre .0 in
     (omega (arith, segment-inside probing (pre .1 .1) (segment-at .ensures)), pre .1 .0, tally .ensures .room)
 
--- src/standing.rt:107:9
 none-from-requires : tie.Need-none-from-requires
 none-from-requires c κs =
-    let wide-size = c .before .before .before .before .wide-size in
-    omega (arith, wide-size .ensures)
+    let usize-of-u8 = c .before .before .before .before .usize-of-u8 in
+    omega (arith, usize-of-u8 .ensures)
 
--- src/standing.rt:107:9
 returns : tie.Need-returns
 returns c =
     let if1 = c .before .if1 in
@@ -78,7 +61,7 @@ returns c =
     let places-hold = back .places-hold in
     let back = back .before .before in
     let tally = back .tally in
-    let wide-size = back .before .wide-size in
+    let usize-of-u8 = back .before .usize-of-u8 in
     let segment-at = back .before .before .segment-at in
     let pre = back .before .before .before .before .pre in
     let probing = back .before .before .before .before .pre .0 in
@@ -86,20 +69,19 @@ returns c =
     (pre .1 .0)
     _ _ _
     (segment-at .ensures)
-    (omega (arith, wide-size .ensures))
+    (omega (arith, usize-of-u8 .ensures))
     (tally .ensures)
     (places-hold .ensures)
     (if1 .taken)
-    (wide-size .ensures)
+    (usize-of-u8 .ensures)
     (c .none-from .ensures)
 
--- src/standing.rt:98:1
 returns-2 : tie.Need-returns-2
 returns-2 c =
     let places-hold = c .before .places-hold in
     let back = c .before .before .before in
     let tally = back .tally in
-    let wide-size = back .before .wide-size in
+    let usize-of-u8 = back .before .usize-of-u8 in
     let segment-at = back .before .before .segment-at in
     let pre = back .before .before .before .before .pre in
     let probing = back .before .before .before .before .pre .0 in
@@ -107,7 +89,7 @@ returns-2 c =
     (pre .1 .0)
     _ _ _
     (segment-at .ensures)
-    (omega (arith, wide-size .ensures))
+    (omega (arith, usize-of-u8 .ensures))
     (tally .ensures)
     (places-hold .ensures)
     (c .if1 .left)
@@ -117,7 +99,7 @@ stands-spec =
     tie.close
     (tie.spec
     segment-at-requires
-    wide-size-requires
+    usize-of-u8-requires
     add-tally
     mul-tally
     add-tally-2

@@ -1,5 +1,5 @@
 -- `build::segment::put_offsets` meets its contract. Invariant: the offsets from run r on, written from here, complete them. Measure: the runs
--- left. Assumes nothing.
+-- left.
 use Rattle.build_marks.specs.Code.Writes.{offsets-start, offsets-end, offsets-next}
 use Rattle.build_marks.specs.Code.{offsetsFrom}
 use Rattle.number.specs.Big.{put}
@@ -17,8 +17,8 @@ Inv-loop seg₀ places h end r₀ seg r = (r ≤ h) × (length seg ≡ length se
 abbrev μ-loop : tie.MeasureT-loop
 μ-loop seg₀ places h end r₀ seg r = end - r
 
-wide-size-requires : tie.Need-wide-size-requires Inv-loop μ-loop
-wide-size-requires c κs = search needs
+usize-of-u8-requires : tie.Need-usize-of-u8-requires Inv-loop μ-loop
+usize-of-u8-requires c κs = search needs
 
 loop-holds : tie.Need-loop-holds Inv-loop μ-loop
 loop-holds c = (omega arith, refl, offsets-start _ _ _)
@@ -66,7 +66,7 @@ put-offsets-spec =
     (tie.spec
     Inv-loop
     μ-loop
-    wide-size-requires
+    usize-of-u8-requires
     loop-holds
     mul-put2
     add-put2

@@ -1,5 +1,4 @@
 -- `build::segment::put_placeholders` meets its contract. Invariant: the placeholders from byte i on complete them. Measure: the bytes left.
--- Assumes nothing.
 use Rattle.build_marks.specs.Code.Writes.{holders-end, holders-next}
 use Rattle.number.specs.Big.{put}
 use lib.ListN.{length, length-set, replicate}

@@ -1,18 +1,10 @@
--- `build::segment::put_segment` meets its contract: one write right behind the other. Assumes nothing.
+-- `build::segment::put_segment` meets its contract: one write right after the other.
 use Rattle.build_marks.specs.Code.Writes.{segmented}
 use Rattle.merge.specs.Heads.Leads.Next.{least-key}
 use native.Mathlib.Omega.{arith}
 use borrow.Author.Needs.{needs}
 use Rattle.build.proofs.segment.put_segment.Statement.{statement}
 use Rattle.build.proofs.segment.put_segment.Tie as tie
-use Rattle.build.proofs.segment.put_segment.Reads as reads
-use Rattle.build.proofs.segment.put_segment.Lts as lts
-use Rattle.build_take.proofs.several.put_keys.Reads as put-keys-reads
-use Rattle.build.proofs.segment.put_offsets.Reads as put-offsets-reads
-use Rattle.build.proofs.segment.put_placeholders.Reads as put-placeholders-reads
-use Rattle.merge.proofs.lead.leader.Reads as leader-reads
-use Rattle.number.proofs.put8.Reads as put8-reads
-use Rattle.number.proofs.wide_size.Reads as wide-size-reads
 
 leader-requires : tie.Need-leader-requires
 leader-requires c κs = search needs
@@ -23,8 +15,8 @@ put8-requires c κs = search needs
 put-offsets-requires : tie.Need-put-offsets-requires
 put-offsets-requires c κs = search needs
 
-wide-size-requires : tie.Need-wide-size-requires
-wide-size-requires c κs = search needs
+usize-of-u8-requires : tie.Need-usize-of-u8-requires
+usize-of-u8-requires c κs = search needs
 
 mul-from : tie.Need-mul-from
 mul-from c = search needs
@@ -32,8 +24,8 @@ mul-from c = search needs
 add-from : tie.Need-add-from
 add-from c = search needs
 
-wide-size-requires-2 : tie.Need-wide-size-requires-2
-wide-size-requires-2 c κs = search needs
+usize-of-u8-requires-2 : tie.Need-usize-of-u8-requires-2
+usize-of-u8-requires-2 c κs = search needs
 
 add-to : tie.Need-add-to
 add-to c = search needs
@@ -41,8 +33,8 @@ add-to c = search needs
 put-keys-requires : tie.Need-put-keys-requires
 put-keys-requires c κs =
     let back = c .before .before .before .before .before .before in
-    let wide-size2 = back .wide-size2 in
-    let wide-size = back .before .wide-size in
+    let usize-of-u82 = back .usize-of-u82 in
+    let usize-of-u8 = back .before .usize-of-u8 in
     let back = back .before .before .before .before in
     let put-offsets = back .put-offsets in
     let back = back .before .before .before .before .before in
@@ -50,22 +42,22 @@ put-keys-requires c κs =
     let back = back .before .before .before .before .before .before .before .before .before .before .before .before .before .before in
     let pre = back .pre in
     let heading = back .pre .0 in
-    (heading, (pre .1 .0, omega arith, omega (arith, pre .1, put8 .kept, put-offsets .kept, wide-size .ensures, wide-size2 .ensures)))
+    (heading, (pre .1 .0, omega arith, omega (arith, pre .1, put8 .kept, put-offsets .kept, usize-of-u8 .ensures, usize-of-u82 .ensures)))
 
 put-placeholders-requires : tie.Need-put-placeholders-requires
 put-placeholders-requires c κs =
     let back = c .before .before .before .before .before .before .before .before .before .before .before .before .before in
     let put-keys = back .put-keys in
     let back = back .before .before .before .before .before .before .before in
-    let wide-size2 = back .wide-size2 in
-    let wide-size = back .before .wide-size in
+    let usize-of-u82 = back .usize-of-u82 in
+    let usize-of-u8 = back .before .usize-of-u8 in
     let back = back .before .before .before .before in
     let put-offsets = back .put-offsets in
     let put8 = back .before .before .before .before .before .put8 in
     let pre =
     back .before .before .before .before .before .before .before .before .before .before .before .before .before .before .before .before .before
     .before .before .pre in
-    (put-keys .ensures .1 .1, omega (arith, pre .1, put8 .kept, put-offsets .kept, put-keys .kept, wide-size .ensures, wide-size2 .ensures))
+    (put-keys .ensures .1 .1, omega (arith, pre .1, put8 .kept, put-offsets .kept, put-keys .kept, usize-of-u8 .ensures, usize-of-u82 .ensures))
 
 sub-result : tie.Need-sub-result
 sub-result c = search needs
@@ -129,10 +121,10 @@ put-segment-spec =
     leader-requires
     put8-requires
     put-offsets-requires
-    wide-size-requires
+    usize-of-u8-requires
     mul-from
     add-from
-    wide-size-requires-2
+    usize-of-u8-requires-2
     add-to
     put-keys-requires
     put-placeholders-requires

@@ -1,4 +1,4 @@
--- `build::segment::write_only` meets its contract: one write right behind the other. Assumes nothing.
+-- `build::segment::write_only` meets its contract: one write right after the other.
 use mathlib.Core.Path.{refl, _∙_}
 use Rattle.merge.specs.Heads.Laws.{next-is}
 use Rattle.build_marks.specs.Code.Only.{least-only, only-cut}
@@ -7,14 +7,6 @@ use native.Mathlib.Omega.{arith}
 use borrow.Author.Needs.{needs}
 use Rattle.build.proofs.segment.write_only.Statement.{statement}
 use Rattle.build.proofs.segment.write_only.Tie as tie
-use Rattle.build.proofs.segment.write_only.Reads as reads
-use Rattle.build.proofs.segment.write_only.Lts as lts
-use Rattle.build.proofs.segment.put_offsets.Reads as put-offsets-reads
-use Rattle.build.proofs.segment.put_placeholders.Reads as put-placeholders-reads
-use Rattle.merge.proofs.heads.head_key.Reads as head-key-reads
-use Rattle.number.proofs.put8.Reads as put8-reads
-use Rattle.number.proofs.wide_size.Reads as wide-size-reads
-use Rattle.build_take.proofs.one.put_only.Reads as put-only-reads
 
 shared-slice-read-a : tie.Need-shared-slice-read-a
 shared-slice-read-a c =
@@ -77,8 +69,8 @@ put-offsets-requires c κs =
     let reading = back .pre .0 in
     (omega (arith, pre .1, put8 .kept), omega (arith, reading))
 
-wide-size-requires : tie.Need-wide-size-requires
-wide-size-requires c κs = search needs
+usize-of-u8-requires : tie.Need-usize-of-u8-requires
+usize-of-u8-requires c κs = search needs
 
 add-to : tie.Need-add-to
 add-to c = search needs
@@ -86,7 +78,7 @@ add-to c = search needs
 put-only-requires : tie.Need-put-only-requires
 put-only-requires c κs =
     let back = c .before .before in
-    let wide-size = back .wide-size in
+    let usize-of-u8 = back .usize-of-u8 in
     let back = back .before .before .before in
     let put-offsets = back .put-offsets in
     let back = back .before .before .before .before .before in
@@ -94,19 +86,19 @@ put-only-requires c κs =
     let back = back .before .before .before .before .before .before .before .before .before .before .before .before .before in
     let pre = back .pre in
     let reading = back .pre .0 in
-    (reading, (pre .1 .0, omega arith, omega (arith, pre .1, put8 .kept, put-offsets .kept, wide-size .ensures)))
+    (reading, (pre .1 .0, omega arith, omega (arith, pre .1, put8 .kept, put-offsets .kept, usize-of-u8 .ensures)))
 
 put-placeholders-requires : tie.Need-put-placeholders-requires
 put-placeholders-requires c κs =
     let back = c .before .before .before .before .before in
     let put-only = back .put-only in
     let back = back .before .before .before in
-    let wide-size = back .wide-size in
+    let usize-of-u8 = back .usize-of-u8 in
     let put-offsets = back .before .before .before .put-offsets in
     let back = back .before .before .before .before .before .before .before .before in
     let put8 = back .put8 in
     let pre = back .before .before .before .before .before .before .before .before .before .before .before .before .before .pre in
-    (put-only .ensures .1 .1, omega (arith, pre .1, put8 .kept, put-offsets .kept, put-only .kept, wide-size .ensures))
+    (put-only .ensures .1 .1, omega (arith, pre .1, put8 .kept, put-offsets .kept, put-only .kept, usize-of-u8 .ensures))
 
 sub-result : tie.Need-sub-result
 sub-result c = search needs
@@ -124,7 +116,7 @@ returns c =
     let back = back .before .before .before .before .before .before in
     let put-only = back .put-only in
     let back = back .before .before .before in
-    let wide-size = back .wide-size in
+    let usize-of-u8 = back .usize-of-u8 in
     let back = back .before .before .before in
     let put-offsets = back .put-offsets in
     let back = back .before .before .before .before .before in
@@ -138,7 +130,7 @@ returns c =
     (put8 .ensures)
     (put-offsets .ensures)
     refl
-    (omega (arith, wide-size .ensures))
+    (omega (arith, usize-of-u8 .ensures))
     (put-only .ensures .0)
     (put-only .ensures .1 .0)
     (put-only .ensures .1 .1)
@@ -158,7 +150,7 @@ write-only-spec =
     head-key-requires
     put8-requires
     put-offsets-requires
-    wide-size-requires
+    usize-of-u8-requires
     add-to
     put-only-requires
     put-placeholders-requires

@@ -1,4 +1,4 @@
--- `build::segment::write_segment` meets its contract. Assumes nothing.
+-- `build::segment::write_segment` meets its contract.
 use mathlib.Core.Path.{refl}
 use Rattle.build_marks.specs.Code.Only.{only-segment}
 use Rattle.build_marks.specs.Code.Records.{reading-on}
@@ -7,11 +7,6 @@ use native.Mathlib.Omega.{arith}
 use borrow.Author.Needs.{needs}
 use Rattle.build.proofs.segment.write_segment.Statement.{statement}
 use Rattle.build.proofs.segment.write_segment.Tie as tie
-use Rattle.build.proofs.segment.write_segment.Reads as reads
-use Rattle.build.proofs.segment.write_segment.Lts as lts
-use Rattle.build.proofs.segment.put_segment.Reads as put-segment-reads
-use Rattle.build.proofs.segment.write_only.Reads as write-only-reads
-use Rattle.merge.proofs.heads.fill_heads.Reads as fill-heads-reads
 
 write-only-requires : tie.Need-write-only-requires
 write-only-requires c κs =

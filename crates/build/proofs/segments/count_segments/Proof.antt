@@ -1,5 +1,5 @@
 -- `build::segments::count_segments` meets its contract. Invariant: g segments have been cut, and the rest of the view is left. Measure: the
--- records left. Assumes nothing.
+-- records left.
 use Prim.Native.Nat.{_+_, _*_}
 use mathlib.Core.Path.{_≡_, refl, sym}
 use lib.ListN.{length}
@@ -11,10 +11,6 @@ use native.Mathlib.Omega.{arith}
 use borrow.Author.Needs.{needs}
 use Rattle.build.proofs.segments.count_segments.Statement.{statement}
 use Rattle.build.proofs.segments.count_segments.Tie as tie
-use Rattle.build.proofs.segments.count_segments.Reads as reads
-use Rattle.build.proofs.segments.count_segments.Lts as lts
-use Rattle.build.proofs.segment.write_segment.Reads as write-segment-reads
-use Rattle.number.proofs.wide_size.Reads as wide-size-reads
 
 abbrev Inv-loop : tie.InvT-loop
 Inv-loop t d n h counts starts places₀ stretch₀ w left₀ g₀ places stretch left g = Reading t counts starts places × Merging t d places left g × (length stretch ≡ 262)
@@ -22,8 +18,8 @@ Inv-loop t d n h counts starts places₀ stretch₀ w left₀ g₀ places stretc
 abbrev μ-loop : tie.MeasureT-loop
 μ-loop t d n h counts starts places₀ stretch₀ w left₀ g₀ places stretch left g = left
 
-wide-size-requires : tie.Need-wide-size-requires Inv-loop μ-loop
-wide-size-requires c κs = search needs
+usize-of-u8-requires : tie.Need-usize-of-u8-requires Inv-loop μ-loop
+usize-of-u8-requires c κs = search needs
 
 mul-w : tie.Need-mul-w Inv-loop μ-loop
 mul-w c = omega arith
@@ -31,8 +27,8 @@ mul-w c = omega arith
 add-w : tie.Need-add-w Inv-loop μ-loop
 add-w c = omega arith
 
-wide-size-requires-2 : tie.Need-wide-size-requires-2 Inv-loop μ-loop
-wide-size-requires-2 c κs = search needs
+usize-of-u8-requires-2 : tie.Need-usize-of-u8-requires-2 Inv-loop μ-loop
+usize-of-u8-requires-2 c κs = search needs
 
 add-w-2 : tie.Need-add-w-2 Inv-loop μ-loop
 add-w-2 c = omega arith
@@ -40,7 +36,7 @@ add-w-2 c = omega arith
 loop-holds : tie.Need-loop-holds Inv-loop μ-loop
 loop-holds c =
     let sounded = c .before .before .before .before .before .pre in
-    (sounded-reading sounded refl, merging-none _ (sounded-ready sounded) (sounded .records), refl)
+    (sounded-reading sounded refl, merging-none sounded (sounded .records), refl)
 
 slice-aggregate-write-segment : tie.Need-slice-aggregate-write-segment Inv-loop μ-loop
 slice-aggregate-write-segment c =
@@ -61,33 +57,33 @@ array-borrow-prefix-stretch : tie.Need-array-borrow-prefix-stretch Inv-loop μ-l
 array-borrow-prefix-stretch c =
     let back = c .before .before .before .before in
     let loop = back .loop in
-    let wide-size2 = back .before .wide-size2 in
-    let wide-size = back .before .before .wide-size in
+    let usize-of-u82 = back .before .usize-of-u82 in
+    let usize-of-u8 = back .before .before .usize-of-u8 in
     let sounded = back .before .before .before .before .before .before .pre in
-    omega (arith, sounded .opened .few, sounded .most, loop .inv .2, wide-size .ensures, wide-size2 .ensures)
+    omega (arith, sounded .opened .few, sounded .most, loop .inv .2, usize-of-u8 .ensures, usize-of-u82 .ensures)
 
 slice-aggregate-write-segment-4 : tie.Need-slice-aggregate-write-segment-4 Inv-loop μ-loop
 slice-aggregate-write-segment-4 c =
     let back = c .before .before .before .before .before in
     let loop = back .loop in
-    let wide-size2 = back .before .wide-size2 in
-    let wide-size = back .before .before .wide-size in
+    let usize-of-u82 = back .before .usize-of-u82 in
+    let usize-of-u8 = back .before .before .usize-of-u8 in
     let sounded = back .before .before .before .before .before .before .pre in
-    sym (front-long _ _ (omega (arith, sounded .opened .few, sounded .most, loop .inv .2, wide-size .ensures, wide-size2 .ensures)) refl)
+    sym (front-long _ _ (omega (arith, sounded .opened .few, sounded .most, loop .inv .2, usize-of-u8 .ensures, usize-of-u82 .ensures)) refl)
 
 write-segment-requires : tie.Need-write-segment-requires Inv-loop μ-loop
 write-segment-requires c κs =
     let back = c .before .before .before .before .before in
     let loop = back .loop in
-    let wide-size2 = back .before .wide-size2 in
-    let wide-size = back .before .before .wide-size in
+    let usize-of-u82 = back .before .usize-of-u82 in
+    let usize-of-u8 = back .before .before .usize-of-u8 in
     let sounded = back .before .before .before .before .before .before .pre in (
       loop .inv .0,
       (
         sounded .opened .runs,
-        (front-long (8 + 2 * (wide-size .result) + wide-size2 .result) (loop .stretch)
-            (omega (arith, sounded .opened .few, sounded .most, loop .inv .2, wide-size .ensures, wide-size2 .ensures))
-            (omega (arith, wide-size .ensures, wide-size2 .ensures))),
+        (front-long (8 + 2 * (usize-of-u8 .result) + usize-of-u82 .result) (loop .stretch)
+            (omega (arith, sounded .opened .few, sounded .most, loop .inv .2, usize-of-u8 .ensures, usize-of-u82 .ensures))
+            (omega (arith, usize-of-u8 .ensures, usize-of-u82 .ensures))),
       ),
     )
 
@@ -99,22 +95,19 @@ sub-left c =
     let loop-test = back .loop-test in
     let loop = back .before .loop in
     let back = back .before .before in
-    let wide-size2 = back .wide-size2 in
-    let wide-size = back .before .wide-size in
+    let usize-of-u82 = back .usize-of-u82 in
+    let usize-of-u8 = back .before .usize-of-u8 in
     let back = back .before .before .before .before in
     let shared-slice-known = back .shared-slice-known in
     let args = back .before .args in
     let sounded = back .before .pre in
-    merging-less
-    (args .t .now)
-    (sounded-ready sounded)
-    (sounded-fits sounded (bytes-known (args .t .now) (shared-slice-known .given)))
-    (sounded .opened .runs)
+    let bytes = bytes-known (args .t .now) (shared-slice-known .given) in
+    merging-less sounded bytes
     (loop .inv .1)
     (loop-test .taken)
-    (front-long (8 + 2 * (wide-size .result) + wide-size2 .result) (loop .stretch)
-    (omega (arith, sounded .opened .few, sounded .most, loop .inv .2, wide-size .ensures, wide-size2 .ensures))
-    (omega (arith, wide-size .ensures, wide-size2 .ensures)))
+    (front-long (8 + 2 * (usize-of-u8 .result) + usize-of-u82 .result) (loop .stretch)
+    (omega (arith, sounded .opened .few, sounded .most, loop .inv .2, usize-of-u8 .ensures, usize-of-u82 .ensures))
+    (omega (arith, usize-of-u8 .ensures, usize-of-u82 .ensures)))
     (write-segment .ensures .0) .1
 
 add-g : tie.Need-add-g Inv-loop μ-loop
@@ -128,7 +121,7 @@ add-g c =
     let sounded = back .before .pre in
     omega (
       arith,
-      merging-low (args .t .now) (sounded-ready sounded) (loop .inv .1) (loop-test .taken),
+      merging-low sounded (loop .inv .1) (loop-test .taken),
       cuts-few (sounded-ready sounded) (sounded-fits sounded (bytes-known (args .t .now) (shared-slice-known .given))),
     )
 
@@ -140,23 +133,20 @@ loop-less c =
     let loop-test = back .loop-test in
     let loop = back .before .loop in
     let back = back .before .before in
-    let wide-size2 = back .wide-size2 in
-    let wide-size = back .before .wide-size in
+    let usize-of-u82 = back .usize-of-u82 in
+    let usize-of-u8 = back .before .usize-of-u8 in
     let back = back .before .before .before .before in
     let shared-slice-known = back .shared-slice-known in
     let args = back .before .args in
     let sounded = back .before .pre in
+    let bytes = bytes-known (args .t .now) (shared-slice-known .given) in
     let k =
-    merging-less
-    (args .t .now)
-    (sounded-ready sounded)
-    (sounded-fits sounded (bytes-known (args .t .now) (shared-slice-known .given)))
-    (sounded .opened .runs)
+    merging-less sounded bytes
     (loop .inv .1)
     (loop-test .taken)
-    (front-long (8 + 2 * (wide-size .result) + wide-size2 .result) (loop .stretch)
-    (omega (arith, sounded .opened .few, sounded .most, loop .inv .2, wide-size .ensures, wide-size2 .ensures))
-    (omega (arith, wide-size .ensures, wide-size2 .ensures)))
+    (front-long (8 + 2 * (usize-of-u8 .result) + usize-of-u82 .result) (loop .stretch)
+    (omega (arith, sounded .opened .few, sounded .most, loop .inv .2, usize-of-u8 .ensures, usize-of-u82 .ensures))
+    (omega (arith, usize-of-u8 .ensures, usize-of-u82 .ensures)))
     (write-segment .ensures .0) in
     omega (arith, k .0, k .1)
 
@@ -170,29 +160,26 @@ loop-again c =
     let loop-test = back .loop-test in
     let loop = back .before .loop in
     let back = back .before .before in
-    let wide-size2 = back .wide-size2 in
-    let wide-size = back .before .wide-size in
+    let usize-of-u82 = back .usize-of-u82 in
+    let usize-of-u8 = back .before .usize-of-u8 in
     let back = back .before .before .before .before in
     let shared-slice-known = back .shared-slice-known in
     let args = back .before .args in
-    let sounded = back .before .pre in (
+    let sounded = back .before .pre in
+    let bytes = bytes-known (args .t .now) (shared-slice-known .given) in (
       write-segment .ensures .1,
-      merging-more
-          (args .t .now)
-          (sounded-ready sounded)
-          (sounded-fits sounded (bytes-known (args .t .now) (shared-slice-known .given)))
-          (sounded .opened .runs)
+      merging-more sounded bytes
           (loop .inv .1)
           (loop-test .taken)
-          (front-long (8 + 2 * (wide-size .result) + wide-size2 .result) (loop .stretch)
-          (omega (arith, sounded .opened .few, sounded .most, loop .inv .2, wide-size .ensures, wide-size2 .ensures))
-          (omega (arith, wide-size .ensures, wide-size2 .ensures)))
+          (front-long (8 + 2 * (usize-of-u8 .result) + usize-of-u82 .result) (loop .stretch)
+          (omega (arith, sounded .opened .few, sounded .most, loop .inv .2, usize-of-u8 .ensures, usize-of-u82 .ensures))
+          (omega (arith, usize-of-u8 .ensures, usize-of-u82 .ensures)))
           (write-segment .ensures .0),
       front-back
-          (8 + 2 * (wide-size .result) + wide-size2 .result)
+          (8 + 2 * (usize-of-u8 .result) + usize-of-u82 .result)
           (loop .stretch)
           write-segment-seg-last
-          (omega (arith, sounded .opened .few, sounded .most, loop .inv .2, wide-size .ensures, wide-size2 .ensures))
+          (omega (arith, sounded .opened .few, sounded .most, loop .inv .2, usize-of-u8 .ensures, usize-of-u82 .ensures))
           write-segment-seg-kept
           (loop .inv .2),
     )
@@ -201,7 +188,7 @@ returns : tie.Need-returns Inv-loop μ-loop
 returns c =
     let loop = c .before .loop in
     let sounded = c .before .before .before .before .before .before .before .pre in
-    merging-end _ (sounded-ready sounded) (loop .inv .1) (omega arith)
+    merging-end sounded (loop .inv .1) (omega arith)
 
 pub count-segments-spec : {M : Type 1} → statement M
 count-segments-spec =
@@ -209,10 +196,10 @@ count-segments-spec =
     (tie.spec
     Inv-loop
     μ-loop
-    wide-size-requires
+    usize-of-u8-requires
     mul-w
     add-w
-    wide-size-requires-2
+    usize-of-u8-requires-2
     add-w-2
     loop-holds
     slice-aggregate-write-segment

@@ -1,5 +1,5 @@
 -- `build::segments::write_segments` meets its contract. Invariant: g segments have been written, and what is left to write completes them.
--- Measure: the records left. Assumes nothing.
+-- Measure: the records left.
 use mathlib.Core.Path.{refl, sym}
 use Rattle.number.proofs.Known.{bytes-known}
 use Rattle.build_spec.specs.Build.Bytes.{cuts-few}
@@ -9,10 +9,6 @@ use native.Mathlib.Omega.{arith}
 use borrow.Author.Needs.{needs}
 use Rattle.build.proofs.segments.write_segments.Statement.{statement}
 use Rattle.build.proofs.segments.write_segments.Tie as tie
-use Rattle.build.proofs.segments.write_segments.Reads as reads
-use Rattle.build.proofs.segments.write_segments.Lts as lts
-use Rattle.build.proofs.segment.write_segment.Reads as write-segment-reads
-use Rattle.index.proofs.frame.segment_at.Reads as segment-at-reads
 
 abbrev Inv-loop : tie.InvT-loop
 Inv-loop t d n out₀ h counts starts places₀ left₀ g₀ out places left g = Reading t counts starts places × Writing t d out₀ places out left g
@@ -24,7 +20,7 @@ loop-holds : tie.Need-loop-holds Inv-loop μ-loop
 loop-holds c =
     let args = c .before .before .before .before .args in
     let sounded = c .before .before .before .before .pre .0 in
-    (sounded-reading sounded refl, writing-none (args .t .now) (sounded-ready sounded) (sounded .records))
+    (sounded-reading sounded refl, writing-none sounded (sounded .records))
 
 segment-at-requires : tie.Need-segment-at-requires Inv-loop μ-loop
 segment-at-requires c κs = search needs
@@ -39,7 +35,7 @@ add-t17 c =
     let sounded = back .before .pre .0 in
     omega (
       arith,
-      merging-low (args .t .now) (sounded-ready sounded) (loop .inv .1 .merging) (loop-test .taken),
+      merging-low sounded (loop .inv .1 .merging) (loop-test .taken),
       cuts-few (sounded-ready sounded) (sounded-fits sounded (bytes-known (args .t .now) (shared-slice-known .given))),
     )
 
@@ -66,70 +62,52 @@ sub-write-segment c =
     let back = c .before .before .before in
     let segment-at2 = back .segment-at2 in
     let segment-at = back .before .segment-at in
-    let back = back .before .before in
-    let loop-test = back .loop-test in
-    let loop = back .before .loop in
-    let back = back .before .before .before .before .before .before in
-    let args = back .args in
+    let loop-test = back .before .before .loop-test in
+    let loop = back .before .before .before .loop in
+    let back = back .before .before .before .before .before .before .before .before in
     let pre = back .pre in
     let sounded = back .pre .0 in
-    (writing-room (args .t .now) (sounded-ready sounded) (sounded .opened .runs) (pre .1) (loop .inv .1) (loop-test .taken) (segment-at .ensures)
-    (segment-at2 .ensures)) .0
+    let fit = writing-room sounded (pre .1) (loop .inv .1) (loop-test .taken) (segment-at .ensures) (segment-at2 .ensures) in
+    fit .0
 
 part-write-segment-start : tie.Need-part-write-segment-start Inv-loop μ-loop
 part-write-segment-start c =
     let back = c .before .before .before in
     let segment-at2 = back .segment-at2 in
     let segment-at = back .before .segment-at in
-    let back = back .before .before in
-    let loop-test = back .loop-test in
-    let loop = back .before .loop in
-    let back = back .before .before .before .before .before .before in
-    let args = back .args in
+    let loop-test = back .before .before .loop-test in
+    let loop = back .before .before .before .loop in
+    let back = back .before .before .before .before .before .before .before .before in
     let pre = back .pre in
     let sounded = back .pre .0 in
-    (writing-room (args .t .now) (sounded-ready sounded) (sounded .opened .runs) (pre .1) (loop .inv .1) (loop-test .taken) (segment-at .ensures)
-    (segment-at2 .ensures)) .0
+    let fit = writing-room sounded (pre .1) (loop .inv .1) (loop-test .taken) (segment-at .ensures) (segment-at2 .ensures) in
+    fit .0
 
 part-write-segment-end : tie.Need-part-write-segment-end Inv-loop μ-loop
 part-write-segment-end c =
     let back = c .before .before .before in
     let segment-at2 = back .segment-at2 in
     let segment-at = back .before .segment-at in
-    let back = back .before .before in
-    let loop-test = back .loop-test in
-    let loop = back .before .loop in
-    let back = back .before .before .before .before .before .before in
-    let args = back .args in
+    let loop-test = back .before .before .loop-test in
+    let loop = back .before .before .before .loop in
+    let back = back .before .before .before .before .before .before .before .before in
     let pre = back .pre in
     let sounded = back .pre .0 in
-    (writing-room (args .t .now) (sounded-ready sounded) (sounded .opened .runs) (pre .1) (loop .inv .1) (loop-test .taken) (segment-at .ensures)
-    (segment-at2 .ensures)) .1
+    let fit = writing-room sounded (pre .1) (loop .inv .1) (loop-test .taken) (segment-at .ensures) (segment-at2 .ensures) in
+    fit .1
 
 write-segment-requires : tie.Need-write-segment-requires Inv-loop μ-loop
 write-segment-requires c κs =
     let back = c .before .before .before .before in
     let segment-at2 = back .segment-at2 in
     let segment-at = back .before .segment-at in
-    let back = back .before .before in
-    let loop-test = back .loop-test in
-    let loop = back .before .loop in
-    let back = back .before .before .before .before .before .before in
-    let args = back .args in
+    let loop-test = back .before .before .loop-test in
+    let loop = back .before .before .before .loop in
+    let back = back .before .before .before .before .before .before .before .before in
     let pre = back .pre in
-    let sounded = back .pre .0 in (
-      loop .inv .0,
-      (
-        sounded .opened .runs,
-        (lent-long (loop .out) (segment-at .result) (segment-at2 .result)
-            ((writing-room (args .t .now) (sounded-ready sounded) (sounded .opened .runs) (pre .1) (loop .inv .1) (loop-test .taken)
-            (segment-at .ensures) (segment-at2 .ensures)) .0)
-            ((writing-room (args .t .now) (sounded-ready sounded) (sounded .opened .runs) (pre .1) (loop .inv .1) (loop-test .taken)
-            (segment-at .ensures) (segment-at2 .ensures)) .1)
-            ((writing-room (args .t .now) (sounded-ready sounded) (sounded .opened .runs) (pre .1) (loop .inv .1) (loop-test .taken)
-            (segment-at .ensures) (segment-at2 .ensures)) .2)),
-      ),
-    )
+    let sounded = back .pre .0 in
+    let fit = writing-room sounded (pre .1) (loop .inv .1) (loop-test .taken) (segment-at .ensures) (segment-at2 .ensures) in
+    (loop .inv .0, (sounded .opened .runs, lent-long (loop .out) (segment-at .result) (segment-at2 .result) (fit .0) (fit .1) (fit .2)))
 
 sub-left : tie.Need-sub-left Inv-loop μ-loop
 sub-left c =
@@ -146,21 +124,10 @@ sub-left c =
     let args = back .before .args in
     let pre = back .before .pre in
     let sounded = back .before .pre .0 in
-    merging-less
-    (args .t .now)
-    (sounded-ready sounded)
-    (sounded-fits sounded (bytes-known (args .t .now) (shared-slice-known .given)))
-    (sounded .opened .runs)
-    (loop .inv .1 .merging)
-    (loop-test .taken)
-    (lent-long (loop .out) (segment-at .result) (segment-at2 .result)
-    ((writing-room (args .t .now) (sounded-ready sounded) (sounded .opened .runs) (pre .1) (loop .inv .1) (loop-test .taken) (segment-at .ensures)
-    (segment-at2 .ensures)) .0)
-    ((writing-room (args .t .now) (sounded-ready sounded) (sounded .opened .runs) (pre .1) (loop .inv .1) (loop-test .taken) (segment-at .ensures)
-    (segment-at2 .ensures)) .1)
-    ((writing-room (args .t .now) (sounded-ready sounded) (sounded .opened .runs) (pre .1) (loop .inv .1) (loop-test .taken) (segment-at .ensures)
-    (segment-at2 .ensures)) .2))
-    (write-segment .ensures .0) .1
+    let fit = writing-room sounded (pre .1) (loop .inv .1) (loop-test .taken) (segment-at .ensures) (segment-at2 .ensures) in
+    let room = lent-long (loop .out) (segment-at .result) (segment-at2 .result) (fit .0) (fit .1) (fit .2) in
+    let bytes = bytes-known (args .t .now) (shared-slice-known .given) in
+    merging-less sounded bytes (loop .inv .1 .merging) (loop-test .taken) room (write-segment .ensures .0) .1
 
 add-g : tie.Need-add-g Inv-loop μ-loop
 add-g c =
@@ -173,7 +140,7 @@ add-g c =
     let sounded = back .before .pre .0 in
     omega (
       arith,
-      merging-low (args .t .now) (sounded-ready sounded) (loop .inv .1 .merging) (loop-test .taken),
+      merging-low sounded (loop .inv .1 .merging) (loop-test .taken),
       cuts-few (sounded-ready sounded) (sounded-fits sounded (bytes-known (args .t .now) (shared-slice-known .given))),
     )
 
@@ -192,22 +159,10 @@ loop-less c =
     let args = back .before .args in
     let pre = back .before .pre in
     let sounded = back .before .pre .0 in
-    let k =
-    merging-less
-    (args .t .now)
-    (sounded-ready sounded)
-    (sounded-fits sounded (bytes-known (args .t .now) (shared-slice-known .given)))
-    (sounded .opened .runs)
-    (loop .inv .1 .merging)
-    (loop-test .taken)
-    (lent-long (loop .out) (segment-at .result) (segment-at2 .result)
-    ((writing-room (args .t .now) (sounded-ready sounded) (sounded .opened .runs) (pre .1) (loop .inv .1) (loop-test .taken) (segment-at .ensures)
-    (segment-at2 .ensures)) .0)
-    ((writing-room (args .t .now) (sounded-ready sounded) (sounded .opened .runs) (pre .1) (loop .inv .1) (loop-test .taken) (segment-at .ensures)
-    (segment-at2 .ensures)) .1)
-    ((writing-room (args .t .now) (sounded-ready sounded) (sounded .opened .runs) (pre .1) (loop .inv .1) (loop-test .taken) (segment-at .ensures)
-    (segment-at2 .ensures)) .2))
-    (write-segment .ensures .0) in
+    let fit = writing-room sounded (pre .1) (loop .inv .1) (loop-test .taken) (segment-at .ensures) (segment-at2 .ensures) in
+    let room = lent-long (loop .out) (segment-at .result) (segment-at2 .result) (fit .0) (fit .1) (fit .2) in
+    let bytes = bytes-known (args .t .now) (shared-slice-known .given) in
+    let k = merging-less sounded bytes (loop .inv .1 .merging) (loop-test .taken) room (write-segment .ensures .0) in
     omega (arith, k .0, k .1)
 
 loop-again : tie.Need-loop-again Inv-loop μ-loop
@@ -226,30 +181,19 @@ loop-again c =
     let shared-slice-known = back .shared-slice-known in
     let args = back .before .args in
     let pre = back .before .pre in
-    let sounded = back .before .pre .0 in (
+    let sounded = back .before .pre .0 in
+    let fit = writing-room sounded (pre .1) (loop .inv .1) (loop-test .taken) (segment-at .ensures) (segment-at2 .ensures) in
+    let room = lent-long (loop .out) (segment-at .result) (segment-at2 .result) (fit .0) (fit .1) (fit .2) in
+    let bytes = bytes-known (args .t .now) (shared-slice-known .given) in (
       write-segment .ensures .1,
-      writing-more
-          (args .t .now)
-          (sounded-ready sounded)
-          (sounded-fits sounded (bytes-known (args .t .now) (shared-slice-known .given)))
-          (sounded .opened .runs)
+      writing-more sounded bytes
           (loop .inv .1)
           (loop-test .taken)
           (pre .1)
-          (lent-long (loop .out) (segment-at .result) (segment-at2 .result)
-          ((writing-room (args .t .now) (sounded-ready sounded) (sounded .opened .runs) (pre .1) (loop .inv .1) (loop-test .taken)
-          (segment-at .ensures) (segment-at2 .ensures)) .0)
-          ((writing-room (args .t .now) (sounded-ready sounded) (sounded .opened .runs) (pre .1) (loop .inv .1) (loop-test .taken)
-          (segment-at .ensures) (segment-at2 .ensures)) .1)
-          ((writing-room (args .t .now) (sounded-ready sounded) (sounded .opened .runs) (pre .1) (loop .inv .1) (loop-test .taken)
-          (segment-at .ensures) (segment-at2 .ensures)) .2))
+          room
           (write-segment .ensures .0)
           (segment-at .ensures)
-          (lent-back (loop .out) write-segment-seg-last (segment-at .result) (segment-at2 .result)
-          ((writing-room (args .t .now) (sounded-ready sounded) (sounded .opened .runs) (pre .1) (loop .inv .1) (loop-test .taken)
-          (segment-at .ensures) (segment-at2 .ensures)) .0)
-          ((writing-room (args .t .now) (sounded-ready sounded) (sounded .opened .runs) (pre .1) (loop .inv .1) (loop-test .taken)
-          (segment-at .ensures) (segment-at2 .ensures)) .1) write-segment-seg-kept),
+          (lent-back (loop .out) write-segment-seg-last (segment-at .result) (segment-at2 .result) (fit .0) (fit .1) write-segment-seg-kept),
     )
 
 same-length : tie.Need-same-length Inv-loop μ-loop
@@ -262,8 +206,8 @@ returns c =
     let loop = c .before .loop in
     let args = c .before .before .before .before .before .before .args in
     let sounded = c .before .before .before .before .before .before .pre .0 in (
-      merging-end (args .t .now) (sounded-ready sounded) (loop .inv .1 .merging) (omega arith),
-      writing-end (args .t .now) (sounded-ready sounded) (loop .inv .1) (omega arith),
+      merging-end sounded (loop .inv .1 .merging) (omega arith),
+      writing-end sounded (loop .inv .1) (omega arith),
     )
 
 pub write-segments-spec : {M : Type 1} → statement M

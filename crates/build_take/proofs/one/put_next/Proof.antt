@@ -1,18 +1,12 @@
 use mathlib.Core.Path.{refl}
 use Rattle.merge.specs.Heads.Leads.Laws.{raised}
--- `build_marks::only::put_next` meets its contract. `only-cut` says that the stretch handed on is the run. Assumes nothing.
+-- `build_marks::only::put_next` meets its contract. `only-cut` says that the stretch handed on is the run.
 use Rattle.build_marks.specs.Code.Only.{only-cut, only-key, only-spelled}
 use Rattle.build_marks.specs.Code.Records.{mark-low, old-low}
 use native.Mathlib.Omega.{arith}
 use borrow.Author.Needs.{needs}
 use Rattle.build_take.proofs.one.put_next.Statement.{statement}
 use Rattle.build_take.proofs.one.put_next.Tie as tie
-use Rattle.build_take.proofs.one.put_next.Reads as reads
-use Rattle.build_take.proofs.one.put_next.Lts as lts
-use Rattle.build_marks.proofs.gone_mark.Reads as gone-mark-reads
-use Rattle.build_marks.proofs.old_mark.Reads as old-mark-reads
-use Rattle.tray.proofs.run.key_at.Reads as key-at-reads
-use Rattle.tray.proofs.run.kind_at.Reads as kind-at-reads
 
 shared-slice-read-a : tie.Need-shared-slice-read-a
 shared-slice-read-a c =

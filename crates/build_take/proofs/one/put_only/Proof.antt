@@ -1,4 +1,4 @@
--- `build_take::one::put_only` meets its contract: what comes next has the last key, has another one, or is nothing. Assumes nothing.
+-- `build_take::one::put_only` meets its contract: what comes next has the last key, has another one, or is nothing.
 use mathlib.Core.Path.{refl}
 use Rattle.build_marks.specs.Code.Only.{next-only, only-cut, only-key, only-over}
 use Rattle.build_marks.specs.Code.Records.{fills-cut, fills-other}
@@ -7,12 +7,6 @@ use native.Mathlib.Omega.{arith}
 use borrow.Author.Needs.{needs}
 use Rattle.build_take.proofs.one.put_only.Statement.{statement}
 use Rattle.build_take.proofs.one.put_only.Tie as tie
-use Rattle.build_take.proofs.one.put_only.Reads as reads
-use Rattle.build_take.proofs.one.put_only.Lts as lts
-use Rattle.build_marks.proofs.cut_back.Reads as cut-back-reads
-use Rattle.build_take.proofs.one.put_run.Reads as put-run-reads
-use Rattle.build_marks.proofs.other_key.Reads as other-key-reads
-use Rattle.tray.proofs.run.key_at.Reads as key-at-reads
 
 other-key-requires : tie.Need-other-key-requires
 other-key-requires c κs = search needs

@@ -1,5 +1,4 @@
 -- `build_take::one::put_run` meets its contract. Invariant: records have been written as far as a place. Measure: the room left.
--- Assumes nothing.
 use Prim.Native.Nat.{_-_}
 use Rattle.index.specs.Scan.Code.{Reading}
 use Rattle.build_marks.specs.Code.Only.{only-cut, only-more, only-end}
@@ -8,9 +7,6 @@ use native.Mathlib.Omega.{arith}
 use borrow.Author.Needs.{needs}
 use Rattle.build_take.proofs.one.put_run.Statement.{statement}
 use Rattle.build_take.proofs.one.put_run.Tie as tie
-use Rattle.build_take.proofs.one.put_run.Reads as reads
-use Rattle.build_take.proofs.one.put_run.Lts as lts
-use Rattle.build_take.proofs.one.put_next.Reads as put-next-reads
 
 abbrev Inv-loop : tie.InvT-loop
 Inv-loop t counts starts seg₀ from to first places₀ n at₀ last₀ seg places at last = Reading t counts starts places × Putting t 1 places₀ seg₀ from first to places seg at last

@@ -1,4 +1,4 @@
--- `build_take::several::put_keys` meets its contract: what comes next has the last key, has another one, or is nothing. Assumes nothing.
+-- `build_take::several::put_keys` meets its contract: what comes next has the last key, has another one, or is nothing.
 use Rattle.build_marks.specs.Code.Records.{fills-cut, fills-other, fills-over}
 use Rattle.build_marks.specs.Code.Taken.{steps-select}
 use Rattle.merge.specs.Heads.Leads.Next.{next-run, next-none}
@@ -6,43 +6,36 @@ use native.Mathlib.Omega.{arith}
 use borrow.Author.Needs.{needs}
 use Rattle.build_take.proofs.several.put_keys.Statement.{statement}
 use Rattle.build_take.proofs.several.put_keys.Tie as tie
-use Rattle.build_take.proofs.several.put_keys.Reads as reads
-use Rattle.build_take.proofs.several.put_keys.Lts as lts
-use Rattle.build_marks.proofs.cut_back.Reads as cut-back-reads
-use Rattle.build_marks.proofs.other_key.Reads as other-key-reads
-use Rattle.build_take.proofs.several.put_records.Reads as put-records-reads
-use Rattle.merge.proofs.lead.choose.Reads as choose-reads
-use Rattle.merge.proofs.lead.leader.Reads as leader-reads
 
 other-key-requires : tie.Need-other-key-requires
 other-key-requires c κs = search needs
 
-put-records-requires : tie.Need-put-records-requires
-put-records-requires c κs = search needs
+put-selectors-requires : tie.Need-put-selectors-requires
+put-selectors-requires c κs = search needs
 
 leader-requires : tie.Need-leader-requires
 leader-requires c κs =
     let back = c .before .before .before .before .before .before .before .before .before .before .before .before .before .before in
-    let put-records = back .put-records in
+    let put-selectors = back .put-selectors in
     let back =
     back .before .before .before .before .before .before .before .before .before .before .before .before .before .before .before .before .before in
     let pre = back .pre in
     let heading = back .pre .0 in (
-      put-records .ensures .1 .leading .room-tops,
-      put-records .ensures .1 .leading .room-firsts,
+      put-selectors .ensures .1 .leading .room-tops,
+      put-selectors .ensures .1 .leading .room-firsts,
       omega (arith, heading .caching .reading .few, pre .1),
     )
 
 choose-requires : tie.Need-choose-requires
 choose-requires c κs =
     let back = c .before .before .before .before .before .before .before .before .before .before .before .before .before .before .before .before in
-    let put-records = back .put-records in
+    let put-selectors = back .put-selectors in
     let back =
     back .before .before .before .before .before .before .before .before .before .before .before .before .before .before .before .before .before in
     let pre = back .pre in
     let heading = back .pre .0 in (
-      put-records .ensures .1 .caching .reading .room-counts,
-      put-records .ensures .1 .caching .reading .room-places,
+      put-selectors .ensures .1 .caching .reading .room-counts,
+      put-selectors .ensures .1 .caching .reading .room-places,
       omega (arith, heading .caching .reading .few, pre .1),
     )
 
@@ -51,13 +44,13 @@ cut-back-requires c κs =
     let back =
     c .before .before .before .before .before .before .before .before .before .before .before .before .before .before .before .before .before .before
     .before .before .before .before .before in
-    let put-records = back .put-records in
+    let put-selectors = back .put-selectors in
     let back =
     back .before .before .before .before .before .before .before .before .before .before .before .before .before .before .before .before .before in
     let pre = back .pre in
     let heading = back .pre .0 in (
-      steps-select (omega (arith, heading .caching .reading .few, pre .1)) (omega (arith, pre .1)) (put-records .ensures .0 .steps),
-      put-records .ensures .1 .caching .reading .room-places,
+      steps-select (omega (arith, heading .caching .reading .few, pre .1)) (omega (arith, pre .1)) (put-selectors .ensures .0 .steps),
+      put-selectors .ensures .1 .caching .reading .room-places,
     )
 
 same-length : tie.Need-same-length
@@ -90,18 +83,18 @@ returns c =
     let back = back .before .before .before in
     let leader = back .leader in
     let back = back .before .before .before .before .before .before .before .before .before .before .before .before .before .before .before in
-    let put-records = back .put-records in
+    let put-selectors = back .put-selectors in
     let other-key = back .before .before .before .before .before .before .other-key in
     let pre =
     back .before .before .before .before .before .before .before .before .before .before .before .before .before .before .before .before .before .pre
     in (
       fills-cut
           (other-key .ensures)
-          (put-records .ensures .0)
-          (next-run (put-records .ensures .1) (pre .1 .0) (leader .ensures) (choose .ensures) (if1 .taken))
+          (put-selectors .ensures .0)
+          (next-run (put-selectors .ensures .1) (pre .1 .0) (leader .ensures) (choose .ensures) (if1 .taken))
           (if2 .taken)
           (cut-back .ensures .0),
-      (cut-back .ensures .1 .0, omega (arith, cut-back .ensures .1, put-records .ensures .0 .inside)),
+      (cut-back .ensures .1 .0, omega (arith, cut-back .ensures .1, put-selectors .ensures .0 .inside)),
     )
 
 same-length-7 : tie.Need-same-length-7
@@ -130,17 +123,17 @@ returns-2 c =
     let back = back .before .before .before in
     let leader = back .leader in
     let back = back .before .before .before .before .before .before .before .before .before .before .before .before .before .before .before in
-    let put-records = back .put-records in
+    let put-selectors = back .put-selectors in
     let other-key = back .before .before .before .before .before .before .other-key in
     let pre =
     back .before .before .before .before .before .before .before .before .before .before .before .before .before .before .before .before .before .pre
     in (
       fills-other
           (other-key .ensures)
-          (put-records .ensures .0)
-          (next-run (put-records .ensures .1) (pre .1 .0) (leader .ensures) (choose .ensures) (if1 .taken))
+          (put-selectors .ensures .0)
+          (next-run (put-selectors .ensures .1) (pre .1 .0) (leader .ensures) (choose .ensures) (if1 .taken))
           (c .if2 .left),
-      (put-records .ensures .0 .begun, put-records .ensures .0 .inside),
+      (put-selectors .ensures .0 .begun, put-selectors .ensures .0 .inside),
     )
 
 same-length-13 : tie.Need-same-length-13
@@ -167,16 +160,16 @@ returns-3 c =
     let back = c .before .before .before in
     let leader = back .leader in
     let back = back .before .before .before .before .before .before .before .before .before .before .before .before .before .before .before in
-    let put-records = back .put-records in
+    let put-selectors = back .put-selectors in
     let other-key = back .before .before .before .before .before .before .other-key in
     let pre =
     back .before .before .before .before .before .before .before .before .before .before .before .before .before .before .before .before .before .pre
     in (
       fills-over
           (other-key .ensures)
-          (put-records .ensures .0)
-          (next-none (put-records .ensures .1) (pre .1 .0) (leader .ensures) (choose .ensures) (c .if1 .left)),
-      (put-records .ensures .0 .begun, put-records .ensures .0 .inside),
+          (put-selectors .ensures .0)
+          (next-none (put-selectors .ensures .1) (pre .1 .0) (leader .ensures) (choose .ensures) (c .if1 .left)),
+      (put-selectors .ensures .0 .begun, put-selectors .ensures .0 .inside),
     )
 
 pub put-keys-spec : {M : Type 1} → statement M
@@ -184,7 +177,7 @@ put-keys-spec =
     tie.close
     (tie.spec
     other-key-requires
-    put-records-requires
+    put-selectors-requires
     leader-requires
     choose-requires
     cut-back-requires

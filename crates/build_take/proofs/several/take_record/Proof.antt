@@ -1,4 +1,4 @@
--- `build_take::several::take_record` meets its contract. `run-cut` says that the stretch handed on is run r. Assumes nothing.
+-- `build_take::several::take_record` meets its contract. `run-cut` says that the stretch handed on is run r.
 use Rattle.build_marks.specs.Code.Records.{mark-low, spelled}
 use Rattle.merge.specs.Heads.Leads.Laws.{place-low}
 use Rattle.merge.specs.Heads.Laws.{run-cut}
@@ -6,15 +6,9 @@ use native.Mathlib.Omega.{arith}
 use borrow.Author.Needs.{needs}
 use Rattle.build_take.proofs.several.take_record.Statement.{statement}
 use Rattle.build_take.proofs.several.take_record.Tie as tie
-use Rattle.build_take.proofs.several.take_record.Reads as reads
-use Rattle.build_take.proofs.several.take_record.Lts as lts
-use Rattle.build_marks.proofs.gone_mark.Reads as gone-mark-reads
-use Rattle.merge.proofs.heads.advance.Reads as advance-reads
-use Rattle.number.proofs.wide_size.Reads as wide-size-reads
-use Rattle.tray.proofs.run.kind_at.Reads as kind-at-reads
 
-wide-size-requires : tie.Need-wide-size-requires
-wide-size-requires c κs = search needs
+usize-of-u8-requires : tie.Need-usize-of-u8-requires
+usize-of-u8-requires c κs = search needs
 
 mul-a : tie.Need-mul-a
 mul-a c = search needs
@@ -37,27 +31,27 @@ shared-slice-read-e c =
 
 sub-kind-at : tie.Need-sub-kind-at
 sub-kind-at c =
-    let wide-size = c .before .before .wide-size in
+    let usize-of-u8 = c .before .before .usize-of-u8 in
     let back = c .before .before .before .before .before .before .before .before .before .before .before in
     let pre = back .pre in
     let heading = back .pre .0 in
-    run-cut (heading .caching .reading) (pre .1 .0) (wide-size .ensures) .start
+    run-cut (heading .caching .reading) (pre .1 .0) (usize-of-u8 .ensures) .start
 
 part-kind-at-start : tie.Need-part-kind-at-start
 part-kind-at-start c =
-    let wide-size = c .before .before .wide-size in
+    let usize-of-u8 = c .before .before .usize-of-u8 in
     let back = c .before .before .before .before .before .before .before .before .before .before .before in
     let pre = back .pre in
     let heading = back .pre .0 in
-    run-cut (heading .caching .reading) (pre .1 .0) (wide-size .ensures) .start
+    run-cut (heading .caching .reading) (pre .1 .0) (usize-of-u8 .ensures) .start
 
 part-kind-at-end : tie.Need-part-kind-at-end
 part-kind-at-end c =
-    let wide-size = c .before .before .wide-size in
+    let usize-of-u8 = c .before .before .usize-of-u8 in
     let back = c .before .before .before .before .before .before .before .before .before .before .before in
     let pre = back .pre in
     let heading = back .pre .0 in
-    run-cut (heading .caching .reading) (pre .1 .0) (wide-size .ensures) .end
+    run-cut (heading .caching .reading) (pre .1 .0) (usize-of-u8 .ensures) .end
 
 mul-t20 : tie.Need-mul-t20
 mul-t20 c = search needs
@@ -70,12 +64,12 @@ slice-read-t25 c =
 kind-at-requires : tie.Need-kind-at-requires
 kind-at-requires c κs =
     let back = c .before .before .before .before in
-    let wide-size = back .wide-size in
+    let usize-of-u8 = back .usize-of-u8 in
     let back = back .before .before .before .before .before .before .before .before .before in
     let pre = back .pre in
     let heading = back .pre .0 in
-    let v = place-low (heading .caching .reading) (pre .1 .0) (wide-size .ensures) (pre .1 .1) in
-    let k = run-cut (heading .caching .reading) (pre .1 .0) (wide-size .ensures) in omega (arith, k .whole)
+    let v = place-low (heading .caching .reading) (pre .1 .0) (usize-of-u8 .ensures) (pre .1 .1) in
+    let k = run-cut (heading .caching .reading) (pre .1 .0) (usize-of-u8 .ensures) in omega (arith, k .whole)
 
 advance-requires : tie.Need-advance-requires
 advance-requires c κs =
@@ -129,13 +123,13 @@ returns c =
     let back = back .before .before .before .before .before .before in
     let kind-at = back .kind-at in
     let back = back .before .before .before .before .before in
-    let wide-size = back .wide-size in
+    let usize-of-u8 = back .usize-of-u8 in
     let back = back .before .before .before .before .before .before .before .before .before in
     let pre = back .pre in
     let heading = back .pre .0 in (
       spelled _ _ _
-          (wide-size .ensures)
-          (run-cut (heading .caching .reading) (pre .1 .0) (wide-size .ensures) .bytes)
+          (usize-of-u8 .ensures)
+          (run-cut (heading .caching .reading) (pre .1 .0) (usize-of-u8 .ensures) .bytes)
           (kind-at .ensures)
           (c .gone-mark .ensures),
       (advance .ensures .0, advance .ensures .1),
@@ -145,7 +139,7 @@ pub take-record-spec : {M : Type 1} → statement M
 take-record-spec =
     tie.close
     (tie.spec
-    wide-size-requires
+    usize-of-u8-requires
     mul-a
     shared-slice-read-a
     add-e

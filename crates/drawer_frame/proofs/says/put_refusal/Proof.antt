@@ -1,4 +1,4 @@
--- `drawer_frame::says::put_refusal` meets its contract: the head with number and figure of the refusal. Assumes nothing.
+-- `drawer_frame::says::put_refusal` meets its contract: the head with number and figure of the refusal.
 use Rattle.drawer_spec.specs.Line.Code.{line-refusal}
 use borrow.Author.Needs.{needs}
 use Rattle.drawer_frame.proofs.says.put_refusal.Statement.{statement}

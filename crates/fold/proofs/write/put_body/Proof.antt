@@ -1,4 +1,4 @@
--- `fold::write::put_body` meets its contract: two stretches of the tray and the kept records between them. Assumes nothing.
+-- `fold::write::put_body` meets its contract: two stretches of the tray and the kept records between them.
 use Rattle.fold.specs.Write.Trays.{body-put}
 use Rattle.fold.specs.Write.Writes.{kept-number}
 use mathlib.Core.Path.{refl}
@@ -25,8 +25,8 @@ part-copy-end c = search needs
 copy-requires : tie.Need-copy-requires
 copy-requires c κs = search needs
 
-put-records-requires : tie.Need-put-records-requires
-put-records-requires c κs = search needs
+put-kept-requires : tie.Need-put-kept-requires
+put-kept-requires c κs = search needs
 
 sub-copy-2 : tie.Need-sub-copy-2
 sub-copy-2 c = search needs
@@ -54,7 +54,7 @@ returns c =
     let back = c .before .before in
     let copy2 = back .copy2 in
     let back = back .before .before .before .before .before in
-    let put-records = back .put-records in
+    let put-kept = back .put-kept in
     let back = back .before .before .before .before in
     let copy = back .copy in
     let args = back .before .before .before .before .before .before .args in
@@ -74,7 +74,7 @@ returns c =
     (kept-number (args .t .now) (args .kept .now) (pre .1 .0 .0))
     refl refl
     (copy .ensures)
-    (put-records .ensures)
+    (put-kept .ensures)
     (copy2 .ensures)
 
 pub put-body-spec : {M : Type 1} → statement M
@@ -87,7 +87,7 @@ put-body-spec =
     part-copy-start
     part-copy-end
     copy-requires
-    put-records-requires
+    put-kept-requires
     sub-copy-2
     part-copy-start-2
     part-copy-end-2

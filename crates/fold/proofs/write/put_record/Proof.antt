@@ -1,4 +1,4 @@
--- `fold::write::put_record` meets its contract: three numbers and a byte, one right behind the other. Assumes nothing.
+-- `fold::write::put_record` meets its contract: three numbers and a byte, one right after the other.
 use Rattle.fold.specs.Write.Writes.{record-put}
 use Rattle.number.proofs.Known.{bytes-known}
 use lib.ListN.{length-set}

@@ -1,4 +1,4 @@
--- `fold::write::write_tray` meets its contract: the head, and the body right behind it. Assumes nothing.
+-- `fold::write::write_tray` meets its contract: the head, and the body right after it.
 use Rattle.fold.specs.Write.Trays.{tray-put, laid-parts}
 use Rattle.number.proofs.Known.{bytes-known}
 use mathlib.Core.Path.{sym, ap, _∙_}
@@ -11,8 +11,8 @@ use Rattle.fold.proofs.write.write_tray.Tie as tie
 array-read-x : tie.Need-array-read-x
 array-read-x c = search needs
 
-wide-size-requires : tie.Need-wide-size-requires
-wide-size-requires c κs = search needs
+usize-of-u8-requires : tie.Need-usize-of-u8-requires
+usize-of-u8-requires c κs = search needs
 
 mul-y : tie.Need-mul-y
 mul-y c = search needs
@@ -20,8 +20,8 @@ mul-y c = search needs
 array-read-y : tie.Need-array-read-y
 array-read-y c = search needs
 
-wide-size-requires-2 : tie.Need-wide-size-requires-2
-wide-size-requires-2 c κs = search needs
+usize-of-u8-requires-2 : tie.Need-usize-of-u8-requires-2
+usize-of-u8-requires-2 c κs = search needs
 
 add-z : tie.Need-add-z
 add-z c = search needs
@@ -32,21 +32,21 @@ mul-z c = search needs
 array-read-z : tie.Need-array-read-z
 array-read-z c = search needs
 
-cast-put-head : tie.Need-cast-put-head
-cast-put-head c = search needs
+cast-put-tray-head : tie.Need-cast-put-tray-head
+cast-put-tray-head c = search needs
 
-put-head-requires : tie.Need-put-head-requires
-put-head-requires c κs =
-    let wide-size2 = c .before .wide-size2 in
+put-tray-head-requires : tie.Need-put-tray-head-requires
+put-tray-head-requires c κs =
+    let usize-of-u82 = c .before .usize-of-u82 in
     let back = c .before .before in
-    let wide-size = back .wide-size in
+    let usize-of-u8 = back .usize-of-u8 in
     let back = back .before .before .before .before in
     let shared-slice-known = back .shared-slice-known in
     let args = back .before .args in
     let pre = back .before .pre in
     let noted = back .before .pre .1 .0 in
     let laid =
-    laid-parts (pre .0 .0) (bytes-known (args .t .now) (shared-slice-known .given)) (noted .number) (wide-size .ensures) (wide-size2 .ensures) in (
+    laid-parts (pre .0 .0) (bytes-known (args .t .now) (shared-slice-known .given)) (noted .number) (usize-of-u8 .ensures) (usize-of-u82 .ensures) in (
       pre .0 .0 .opened .runs,
       pre .0 .0 .order,
       omega (arith, pre .0 .0 .within, pre .0 .0 .opened .runs),
@@ -54,14 +54,14 @@ put-head-requires c κs =
       omega (arith, laid .size, pre .1 .1),
     )
 
-sub-wide-size : tie.Need-sub-wide-size
-sub-wide-size c = search needs
+sub-usize-of-u8 : tie.Need-sub-usize-of-u8
+sub-usize-of-u8 c = search needs
 
-sub-wide-size-2 : tie.Need-sub-wide-size-2
-sub-wide-size-2 c = search needs
+sub-usize-of-u8-2 : tie.Need-sub-usize-of-u8-2
+sub-usize-of-u8-2 c = search needs
 
-wide-size-requires-3 : tie.Need-wide-size-requires-3
-wide-size-requires-3 c κs = search needs
+usize-of-u8-requires-3 : tie.Need-usize-of-u8-requires-3
+usize-of-u8-requires-3 c κs = search needs
 
 mul-put-body : tie.Need-mul-put-body
 mul-put-body c = search needs
@@ -72,19 +72,19 @@ add-put-body c = search needs
 put-body-requires : tie.Need-put-body-requires
 put-body-requires c κs =
     let back = c .before .before .before .before in
-    let put-head = back .put-head in
+    let put-tray-head = back .put-tray-head in
     let back = back .before .before in
-    let wide-size2 = back .wide-size2 in
-    let wide-size = back .before .wide-size in
+    let usize-of-u82 = back .usize-of-u82 in
+    let usize-of-u8 = back .before .usize-of-u8 in
     let back = back .before .before .before .before .before in
     let shared-slice-known = back .shared-slice-known in
     let args = back .before .args in
     let pre = back .before .pre in
     let noted = back .before .pre .1 .0 in
     let laid =
-    laid-parts (pre .0 .0) (bytes-known (args .t .now) (shared-slice-known .given)) (noted .number) (wide-size .ensures) (wide-size2 .ensures) in (
+    laid-parts (pre .0 .0) (bytes-known (args .t .now) (shared-slice-known .given)) (noted .number) (usize-of-u8 .ensures) (usize-of-u82 .ensures) in (
       (laid .up, laid .in-tray, laid .in-tray-2),
-      ((omega (arith, pre .0 .1, noted .room), omega (arith, laid .size, pre .1 .1, c .wide-size3 .ensures, put-head .kept)), noted .inside),
+      ((omega (arith, pre .0 .1, noted .room), omega (arith, laid .size, pre .1 .1, c .usize-of-u83 .ensures, put-tray-head .kept)), noted .inside),
     )
 
 same-length : tie.Need-same-length
@@ -94,19 +94,19 @@ returns : tie.Need-returns
 returns c =
     let back = c .before .before in
     let put-body = back .put-body in
-    let wide-size3 = back .before .wide-size3 in
+    let usize-of-u83 = back .before .usize-of-u83 in
     let back = back .before .before .before .before .before in
-    let put-head = back .put-head in
+    let put-tray-head = back .put-tray-head in
     let back = back .before .before in
-    let wide-size2 = back .wide-size2 in
-    let wide-size = back .before .wide-size in
+    let usize-of-u82 = back .usize-of-u82 in
+    let usize-of-u8 = back .before .usize-of-u8 in
     let back = back .before .before .before .before .before in
     let shared-slice-known = back .shared-slice-known in
     let args = back .before .args in
     let pre = back .before .pre in
     let noted = back .before .pre .1 .0 in
     let laid =
-    laid-parts (pre .0 .0) (bytes-known (args .t .now) (shared-slice-known .given)) (noted .number) (wide-size .ensures) (wide-size2 .ensures) in
+    laid-parts (pre .0 .0) (bytes-known (args .t .now) (shared-slice-known .given)) (noted .number) (usize-of-u8 .ensures) (usize-of-u82 .ensures) in
     let is = noted .are (pre .0 .1) in
     tray-put
     (args .t .now)
@@ -123,8 +123,8 @@ returns c =
     (laid .start)
     (laid .front)
     (laid .back)
-    (omega (arith, wide-size3 .ensures, pre .0 .0 .opened .runs))
-    (put-head .ensures)
+    (omega (arith, usize-of-u83 .ensures, pre .0 .0 .opened .runs))
+    (put-tray-head .ensures)
     (put-body .ensures)
 
 pub write-tray-spec : {M : Type 1} → statement M
@@ -132,18 +132,18 @@ write-tray-spec =
     tie.close
     (tie.spec
     array-read-x
-    wide-size-requires
+    usize-of-u8-requires
     mul-y
     array-read-y
-    wide-size-requires-2
+    usize-of-u8-requires-2
     add-z
     mul-z
     array-read-z
-    cast-put-head
-    put-head-requires
-    sub-wide-size
-    sub-wide-size-2
-    wide-size-requires-3
+    cast-put-tray-head
+    put-tray-head-requires
+    sub-usize-of-u8
+    sub-usize-of-u8-2
+    usize-of-u8-requires-3
     mul-put-body
     add-put-body
     put-body-requires

@@ -1,4 +1,4 @@
--- `fold_merge::keep::fresh` meets its contract: each way out is a case of the definition. Assumes nothing.
+-- `fold_merge::keep::fresh` meets its contract: each way out is a case of the definition.
 use Rattle.fold_merge.specs.Folding.Keeping.{fresh-first, fresh-new, fresh-old}
 use native.Mathlib.Omega.{arith}
 use Rattle.fold_merge.proofs.keep.fresh.Statement.{statement}

@@ -1,4 +1,4 @@
--- `fold_merge::keep::note` meets its contract: the test that was taken is the one of the definition. Assumes nothing.
+-- `fold_merge::keep::note` meets its contract: the test that was taken is the one of the definition.
 use Rattle.fold_merge.specs.Folding.Keeping.{noted-room, noted-full}
 use native.Mathlib.Omega.{arith}
 use borrow.Author.Needs.{needs}

@@ -1,4 +1,4 @@
--- `fold_merge::keep::skip_runs` meets its contract. Invariant: the runs so far are read to their ends. Measure: the runs left. Assumes nothing.
+-- `fold_merge::keep::skip_runs` meets its contract. Invariant: the runs so far are read to their ends. Measure: the runs left.
 use Rattle.fold_merge.specs.Folding.Moves.{skips-none, skips-more, skips-all}
 use Rattle.fold_merge.specs.Folding.{Skips}
 use Prim.Native.Nat.{_-_, _≤_}

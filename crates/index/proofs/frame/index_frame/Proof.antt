@@ -1,4 +1,4 @@
--- `index::frame::index_frame` meets its contract: each way out is a test of the frame, in its order. Assumes nothing.
+-- `index::frame::index_frame` meets its contract: each way out is a test of the frame, in its order.
 use Rattle.index.specs.Layout.Code.{frame-short, frame-runs, frame-low, frame-high, frame-2, frame-3, frame-long, frame-fits}
 use native.Mathlib.Omega.{arith}
 use borrow.Author.Needs.{needs}

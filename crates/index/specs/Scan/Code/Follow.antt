@@ -4,7 +4,6 @@
 --     following-lost, following-ended, following-end    how it ends
 --     scan-lost, scan-wrong, scan-heads     the selectors of a segment
 --     segment-offsets, segment-scanned      a segment
--- Assumes nothing.
 use mathlib.Core.Path.{_≡_, refl, sym, ap, ap₂, _∙_}
 use Prim.Native.Nat.{ℕ, suc, _+_, _-_, _*_, _%_, _≤_, _<_}
 use native.Mathlib.Omega.{arith}

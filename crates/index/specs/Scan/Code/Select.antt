@@ -3,7 +3,6 @@
 --     begin-is                 the first selector of a segment
 --     follow-is, follow-falls, follow-not    a later one
 --     joins-head, begins-head  of a record only key and kind count
--- Assumes nothing.
 use mathlib.Core.Path.{_≡_, refl, sym, ap, _∙_}
 use Prim.Native.Nat.{ℕ, _+_, _-_, _*_, _/_, _%_, _≤_, _<_}
 use native.Mathlib.Nat.{le-of-lt}
@@ -13,9 +12,9 @@ use lib.Dec.{eqb, ltb, leb}
 use borrow.Author.Tests.{eq-eqb, ne-eqb, le-ltb, lt-ltb, ltb-true, ltb-false, le-leb, lt-leb, eqb-true, eqb-false}
 use Rattle.theory.specs.Records.{Record}
 use Rattle.theory.specs.Tests.{cases}
-use Rattle.index.specs.declared.Head.{Head}
+use Rattle.tray.specs.declared.Head.{Head}
 use Rattle.index.specs.Scan.{marked, begins, joins}
-use Rattle.index.specs.Scan.Code.{HeadOf, headed}
+use Rattle.tray.specs.Run.Code.{HeadOf, headed}
 
 pub bit-low : (b : Bool) → cond b 1 0 ≤ 1
 bit-low true = omega arith
@@ -25,7 +24,7 @@ pub off-low : (b : Bool) → cond b 0 1 ≤ 1
 off-low true = omega arith
 off-low false = omega arith
 
--- the marks, reckoned and as they are
+-- the marks, computed and as they are
 marks : (v s g : ℕ) (o l : Bool) → s ≡ cond o 1 0 → g ≡ cond l 0 1 → v + 128 * s + 64 * g ≡ v + (cond o 128 0 + cond l 0 64)
 marks v s g true true p q = omega arith
 marks v s g true false p q = omega arith

@@ -3,7 +3,6 @@
 --     above-has, above-none            a run's next key against the last one
 --     step-is, step-not, step-end, step-past       one selector after another record
 --     begin-reads, begin-not, begin-other, begin-end, begin-past   the first selector of a segment
--- Assumes nothing.
 use mathlib.Core.Path.{_≡_, sym, ap, _∙_, subst}
 use Prim.Native.Nat.{ℕ, _+_, _%_, _≤_, _<_}
 use native.Mathlib.Omega.{arith}
@@ -14,9 +13,10 @@ use lib.Dec.{ltb}
 use borrow.Author.Tests.{lt-ltb, le-ltb, eq-eqb, ne-eqb}
 use Rattle.tray.specs.Frame.{runCount, countOf, runBytes}
 use Rattle.tray.specs.Run.{recordAt}
-use Rattle.index.specs.declared.Head.{Head}
+use Rattle.tray.specs.declared.Head.{Head}
 use Rattle.index.specs.Scan.{lost, kept, nextIn, hasNext, names, raise, begins, joins}
-use Rattle.index.specs.Scan.Code.{Reading, HeadOf, headed, aboveIn, stepOf, beginOf}
+use Rattle.index.specs.Scan.Code.{Reading, aboveIn, stepOf, beginOf}
+use Rattle.tray.specs.Run.Code.{HeadOf, headed}
 use Rattle.index.specs.Scan.Code.Select.{begins-head, joins-head}
 
 -- run r of the tray is number i of the code's lists

@@ -1,12 +1,12 @@
--- `index_check::segment::head_above` meets its contract: a run with a record left is asked for its key. Assumes nothing.
+-- `index_check::segment::head_above` meets its contract: a run with a record left is asked for its key.
 use Rattle.index.specs.Scan.Code.Steps.{next-below, above-has, above-none}
 use native.Mathlib.Omega.{arith}
 use borrow.Author.Needs.{needs}
 use Rattle.index_check.proofs.segment.head_above.Statement.{statement}
 use Rattle.index_check.proofs.segment.head_above.Tie as tie
 
-wide-size-requires : tie.Need-wide-size-requires
-wide-size-requires c κs = search needs
+usize-of-u8-requires : tie.Need-usize-of-u8-requires
+usize-of-u8-requires c κs = search needs
 
 mul-p : tie.Need-mul-p
 mul-p c = omega arith
@@ -22,35 +22,35 @@ shared-slice-read-if1 c = omega arith
 
 head-of-requires : tie.Need-head-of-requires
 head-of-requires c κs =
-    let wide-size = c .before .before .before .wide-size in
+    let usize-of-u8 = c .before .before .before .usize-of-u8 in
     let back = c .before .before .before .before .before .before .before .before in
     let pre = back .pre in
     let reading = back .pre .0 in
-    (reading .at, (pre .1, next-below reading (pre .1) (wide-size .ensures) (c .if1 .taken)))
+    (reading .at, (pre .1, next-below reading (pre .1) (usize-of-u8 .ensures) (c .if1 .taken)))
 
 returns : tie.Need-returns
 returns c =
     let head-of = c .before .head-of in
     let if1 = c .before .before .if1 in
     let back = c .before .before .before .before .before in
-    let wide-size = back .wide-size in
+    let usize-of-u8 = back .usize-of-u8 in
     let pre = back .before .before .before .before .before .pre in
     let reading = back .before .before .before .before .before .pre .0 in
-    above-has reading (pre .1) (wide-size .ensures) _ (if1 .taken) (head-of .ensures)
+    above-has reading (pre .1) (usize-of-u8 .ensures) _ (if1 .taken) (head-of .ensures)
 
 returns-2 : tie.Need-returns-2
 returns-2 c =
-    let wide-size = c .before .before .before .wide-size in
+    let usize-of-u8 = c .before .before .before .usize-of-u8 in
     let back = c .before .before .before .before .before .before .before .before in
     let pre = back .pre in
     let reading = back .pre .0 in
-    above-none reading (pre .1) (wide-size .ensures) _ (c .if1 .left)
+    above-none reading (pre .1) (usize-of-u8 .ensures) _ (c .if1 .left)
 
 pub head-above-spec : {M : Type 1} → statement M
 head-above-spec =
     tie.close
     (tie.spec
-    wide-size-requires
+    usize-of-u8-requires
     mul-p
     shared-slice-read-p
     mul-if1

@@ -1,4 +1,4 @@
--- `index_check::segment::heads_above` meets its contract. Invariant: the runs left answer for all. Measure: the runs left. Assumes nothing.
+-- `index_check::segment::heads_above` meets its contract. Invariant: the runs left answer for all. Measure: the runs left.
 use Prim.Native.Nat.{_≤_}
 use mathlib.Core.Path.{_≡_, refl, sym, _∙_}
 use Rattle.index.specs.Scan.{headsAbove}

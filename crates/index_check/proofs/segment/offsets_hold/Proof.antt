@@ -1,4 +1,4 @@
--- `index_check::segment::offsets_hold` meets its contract. Invariant: the runs left answer for all. Measure: the runs left. Assumes nothing.
+-- `index_check::segment::offsets_hold` meets its contract. Invariant: the runs left answer for all. Measure: the runs left.
 use Prim.Native.Nat.{_≤_}
 use mathlib.Core.Path.{_≡_, refl, sym, ap, _∙_}
 use Rattle.index.specs.Scan.{offsetsHold}
@@ -14,11 +14,11 @@ Inv-loop x at h places r₀ r = (r ≤ h) × (offsetsHold x at places r ≡ offs
 abbrev μ-loop : tie.MeasureT-loop
 μ-loop x at h places r₀ r = r
 
-wide-size-requires : tie.Need-wide-size-requires Inv-loop μ-loop
-wide-size-requires c κs = search needs
+usize-of-u8-requires : tie.Need-usize-of-u8-requires Inv-loop μ-loop
+usize-of-u8-requires c κs = search needs
 
 loop-holds : tie.Need-loop-holds Inv-loop μ-loop
-loop-holds c = (omega arith, ap (offsetsHold _ _ _) (c .wide-size .ensures))
+loop-holds c = (omega arith, ap (offsetsHold _ _ _) (c .usize-of-u8 .ensures))
 
 sub-r : tie.Need-sub-r Inv-loop μ-loop
 sub-r c = omega arith
@@ -69,7 +69,7 @@ offsets-hold-spec =
     (tie.spec
     Inv-loop
     μ-loop
-    wide-size-requires
+    usize-of-u8-requires
     loop-holds
     sub-r
     add-big2

@@ -1,4 +1,4 @@
--- `index_check::segment::only_placeholders` meets its contract. Invariant: the bytes left answer for all. Measure: the bytes left. Assumes nothing.
+-- `index_check::segment::only_placeholders` meets its contract. Invariant: the bytes left answer for all. Measure: the bytes left.
 use Prim.Native.Nat.{_≤_, _-_}
 use mathlib.Core.Path.{_≡_, refl, sym, _∙_}
 use Rattle.index.specs.Scan.{onlyPlaceholders}

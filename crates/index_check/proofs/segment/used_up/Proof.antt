@@ -1,4 +1,4 @@
--- `index_check::segment::used_up` meets its contract. Invariant: the runs left answer for all. Measure: the runs left. Assumes nothing.
+-- `index_check::segment::used_up` meets its contract. Invariant: the runs left answer for all. Measure: the runs left.
 use Prim.Native.Nat.{_≤_}
 use mathlib.Core.Path.{_≡_, refl, sym, ap, _∙_}
 use Rattle.index.specs.Scan.Code.{sameTo, same-end, same-next, same-stop}
@@ -13,11 +13,11 @@ Inv-loop counts places h r₀ r = (r ≤ h) × (sameTo places counts r ≡ sameT
 abbrev μ-loop : tie.MeasureT-loop
 μ-loop counts places h r₀ r = r
 
-wide-size-requires : tie.Need-wide-size-requires Inv-loop μ-loop
-wide-size-requires c κs = search needs
+usize-of-u8-requires : tie.Need-usize-of-u8-requires Inv-loop μ-loop
+usize-of-u8-requires c κs = search needs
 
 loop-holds : tie.Need-loop-holds Inv-loop μ-loop
-loop-holds c = (omega arith, ap (sameTo _ _) (c .wide-size .ensures))
+loop-holds c = (omega arith, ap (sameTo _ _) (c .usize-of-u8 .ensures))
 
 sub-r : tie.Need-sub-r Inv-loop μ-loop
 sub-r c = omega arith
@@ -60,7 +60,7 @@ used-up-spec =
     (tie.spec
     Inv-loop
     μ-loop
-    wide-size-requires
+    usize-of-u8-requires
     loop-holds
     sub-r
     mul-if1

@@ -1,4 +1,4 @@
--- `index_check::selector::equal` meets its contract: the test that was taken decides. Assumes nothing.
+-- `index_check::selector::equal` meets its contract: the test that was taken decides.
 use borrow.Author.Tests.{eq-eqb, ne-eqb}
 use Rattle.index_check.proofs.selector.equal.Statement.{statement}
 use Rattle.index_check.proofs.selector.equal.Tie as tie

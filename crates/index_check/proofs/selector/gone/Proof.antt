@@ -1,4 +1,4 @@
--- `index_check::selector::gone` meets its contract: the test that was taken decides. Assumes nothing.
+-- `index_check::selector::gone` meets its contract: the test that was taken decides.
 use borrow.Author.Tests.{eq-eqb, ne-eqb}
 use Rattle.index_check.proofs.selector.gone.Statement.{statement}
 use Rattle.index_check.proofs.selector.gone.Tie as tie

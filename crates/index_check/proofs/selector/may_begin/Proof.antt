@@ -1,4 +1,4 @@
--- `index_check::selector::may_begin` meets its contract: the marks are reckoned as numbers. Assumes nothing.
+-- `index_check::selector::may_begin` meets its contract: the marks are computed as numbers.
 use Rattle.index.specs.Scan.Code.Select.{off-low, begin-is}
 use lib.Dec.{eqb}
 use native.Mathlib.Omega.{arith}

@@ -1,4 +1,4 @@
--- `index_check::selector::may_follow` meets its contract: the marks and the order are reckoned as numbers. Assumes nothing.
+-- `index_check::selector::may_follow` meets its contract: the marks and the order are computed as numbers.
 use Rattle.index.specs.Scan.Code.Select.{bit-low, off-low, follow-is, follow-falls, follow-not}
 use lib.Dec.{eqb}
 use native.Mathlib.Omega.{arith}

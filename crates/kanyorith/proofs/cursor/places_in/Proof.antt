@@ -1,4 +1,4 @@
--- `kanyorith::cursor::places_in` meets its contract. Invariant: the first i places are read. Measure: what is left of 63. Assumes nothing.
+-- `kanyorith::cursor::places_in` meets its contract. Invariant: the first i places are read. Measure: what is left of 63.
 use Prim.Native.Nat.{_-_}
 use Rattle.theorems.specs.Cursors.Laws.{InSoFar, in-none, in-more, in-all}
 use native.Mathlib.Omega.{arith}

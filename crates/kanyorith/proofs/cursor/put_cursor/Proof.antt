@@ -1,4 +1,4 @@
--- `kanyorith::cursor::put_cursor` meets its contract: the places, and then the first three numbers. Assumes nothing.
+-- `kanyorith::cursor::put_cursor` meets its contract: the places, and then the first three numbers.
 use lib.ListN.{length-set, length-map}
 use mathlib.Core.Path.{sym, _∙_}
 use Rattle.theorems.specs.Cursors.Laws.{put-all}
@@ -22,8 +22,8 @@ cast-numbers-2 c = search needs
 slice-write-numbers-2 : tie.Need-slice-write-numbers-2
 slice-write-numbers-2 c = search needs
 
-selector-out-requires : tie.Need-selector-out-requires
-selector-out-requires c κs = search needs
+u16-of-u8-requires : tie.Need-u16-of-u8-requires
+u16-of-u8-requires c κs = search needs
 
 slice-write-numbers-3 : tie.Need-slice-write-numbers-3
 slice-write-numbers-3 c =
@@ -45,7 +45,7 @@ returns c =
     put-places-numbers-last
     (sym (length-map (args .from .places) _) ∙ from-good .1 .1 .1 .1 .0 .1 .0 .1)
     (put-places .ensures)
-    (c .selector-out .ensures)
+    (c .u16-of-u8 .ensures)
 
 pub put-cursor-spec : {M : Type 1} → statement M
 put-cursor-spec =
@@ -56,7 +56,7 @@ put-cursor-spec =
     slice-write-numbers
     cast-numbers-2
     slice-write-numbers-2
-    selector-out-requires
+    u16-of-u8-requires
     slice-write-numbers-3
     same-length
     returns)

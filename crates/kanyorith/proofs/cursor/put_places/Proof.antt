@@ -1,4 +1,4 @@
--- `kanyorith::cursor::put_places` meets its contract. Invariant: the first i places are written. Measure: what is left of 63. Assumes nothing.
+-- `kanyorith::cursor::put_places` meets its contract. Invariant: the first i places are written. Measure: what is left of 63.
 use mathlib.Core.Path.{refl}
 use Prim.Native.Nat.{_-_}
 use Rattle.theorems.specs.Cursors.Laws.{OutSoFar, out-none, out-more, out-all}

@@ -1,4 +1,4 @@
--- `kanyorith::cursor::selector_in` meets its contract. Assumes nothing.
+-- `kanyorith::cursor::selector_in` meets its contract.
 use Rattle.theorems.specs.Wide.{narrow-low, narrow-high}
 use borrow.Author.Needs.{needs}
 use Rattle.kanyorith.proofs.cursor.selector_in.Statement.{statement}

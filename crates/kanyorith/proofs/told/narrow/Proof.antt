@@ -1,4 +1,4 @@
--- `kanyorith::told::narrow` meets its contract. Assumes nothing.
+-- `kanyorith::told::narrow` meets its contract.
 use Rattle.theorems.specs.Wide.{narrow-low, narrow-high}
 use borrow.Author.Needs.{needs}
 use Rattle.kanyorith.proofs.told.narrow.Statement.{statement}

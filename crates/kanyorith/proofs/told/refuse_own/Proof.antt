@@ -1,4 +1,4 @@
--- `kanyorith::told::refuse_own` meets its contract: the number decides whose figure it is. Assumes nothing.
+-- `kanyorith::told::refuse_own` meets its contract: the number decides whose figure it is.
 use Rattle.theorems.specs.Wide.{owned, own-there, own-else}
 use mathlib.Core.Path.{ap, _∙_}
 use borrow.Author.Needs.{needs}

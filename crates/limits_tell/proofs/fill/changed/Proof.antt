@@ -1,4 +1,4 @@
--- `limits_tell::fill::changed` ends and does not overflow. Invariant: no more bytes are another than were looked at. Measure: the bytes left. Assumes nothing.
+-- `limits_tell::fill::changed` ends and does not overflow. Invariant: no more bytes are another than were looked at. Measure: the bytes left.
 use Prim.Native.Nat.{_≤_, _-_}
 use lib.ListN.{length}
 use native.Mathlib.Omega.{arith}

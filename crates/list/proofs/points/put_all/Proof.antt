@@ -1,4 +1,4 @@
--- `list::points::put_all` meets its contract. Invariant: the first `i` records are written. Measure: the records left. Assumes nothing.
+-- `list::points::put_all` meets its contract. Invariant: the first `i` records are written. Measure: the records left.
 use mathlib.Core.Path.{refl}
 use Prim.Native.Nat.{_-_}
 use Rattle.list.specs.Stops.Laws.{within-at}

@@ -1,4 +1,4 @@
--- `list::points::write_from` meets its contract: three writes, one right behind another. Assumes nothing.
+-- `list::points::write_from` meets its contract: three writes, one right after another.
 use mathlib.Core.Path.{ap}
 use Prim.Native.Nat.{ℕ, _*_}
 use Rattle.list.specs.Page.Code.{put-listed}
@@ -7,8 +7,8 @@ use borrow.Author.Needs.{needs}
 use Rattle.list.proofs.points.write_from.Statement.{statement}
 use Rattle.list.proofs.points.write_from.Tie as tie
 
-size16-requires : tie.Need-size16-requires
-size16-requires c κs = search needs
+usize-of-u16-requires : tie.Need-usize-of-u16-requires
+usize-of-u16-requires c κs = search needs
 
 mul-from : tie.Need-mul-from
 mul-from c = search needs
@@ -58,11 +58,11 @@ returns c =
     let back = back .before .before .before .before in
     let put8 = back .put8 in
     let big8 = back .before .big8 in
-    let size16 = back .before .before .before .size16 in
+    let usize-of-u16 = back .before .before .before .usize-of-u16 in
     put-listed _ _ _ _
     (omega arith)
     (omega arith)
-    (ap (λ (k : ℕ). 25 * k) (size16 .ensures))
+    (ap (λ (k : ℕ). 25 * k) (usize-of-u16 .ensures))
     (big8 .ensures)
     (big82 .ensures)
     (big83 .ensures)
@@ -74,7 +74,7 @@ pub write-from-spec : {M : Type 1} → statement M
 write-from-spec =
     tie.close
     (tie.spec
-    size16-requires
+    usize-of-u16-requires
     mul-from
     big8-requires
     put8-requires

@@ -1,4 +1,4 @@
--- `list::points::write_point` meets its contract: `cut` says that the stretch handed on is the run. Assumes nothing.
+-- `list::points::write_point` meets its contract: `cut` says that the stretch handed on is the run.
 use denote.Ref.{now}
 use Prim.Native.Nat.{ℕ}
 use mathlib.Core.List.{List}
@@ -12,8 +12,8 @@ use borrow.Author.Needs.{needs}
 use Rattle.list.proofs.points.write_point.Statement.{statement}
 use Rattle.list.proofs.points.write_point.Tie as tie
 
-wide-size-requires : tie.Need-wide-size-requires
-wide-size-requires c κs = search needs
+usize-of-u8-requires : tie.Need-usize-of-u8-requires
+usize-of-u8-requires c κs = search needs
 
 mul-a : tie.Need-mul-a
 mul-a c = search needs
@@ -32,32 +32,32 @@ shared-slice-read-e c = search needs
 
 sub-write-from : tie.Need-sub-write-from
 sub-write-from c =
-    let wide-size = c .before .before .wide-size in
+    let usize-of-u8 = c .before .before .usize-of-u8 in
     let pre = c .before .before .before .before .before .before .pre in
     let starts = c .before .before .before .before .before .before .pre .0 in
-    cut _ starts (pre .1 .0) (wide-size .ensures) .start
+    cut _ starts (pre .1 .0) (usize-of-u8 .ensures) .start
 
 part-write-from-start : tie.Need-part-write-from-start
 part-write-from-start c =
-    let wide-size = c .before .before .wide-size in
+    let usize-of-u8 = c .before .before .usize-of-u8 in
     let pre = c .before .before .before .before .before .before .pre in
     let starts = c .before .before .before .before .before .before .pre .0 in
-    cut _ starts (pre .1 .0) (wide-size .ensures) .start
+    cut _ starts (pre .1 .0) (usize-of-u8 .ensures) .start
 
 part-write-from-end : tie.Need-part-write-from-end
 part-write-from-end c =
-    let wide-size = c .before .before .wide-size in
+    let usize-of-u8 = c .before .before .usize-of-u8 in
     let pre = c .before .before .before .before .before .before .pre in
     let starts = c .before .before .before .before .before .before .pre .0 in
-    cut _ starts (pre .1 .0) (wide-size .ensures) .end
+    cut _ starts (pre .1 .0) (usize-of-u8 .ensures) .end
 
 write-from-requires : tie.Need-write-from-requires
 write-from-requires c κs =
     let back = c .before .before .before .before in
-    let wide-size = back .wide-size in
+    let usize-of-u8 = back .usize-of-u8 in
     let pre = back .before .before .before .before .pre in
     let starts = back .before .before .before .before .pre .0 in
-    let k = cut _ starts (pre .1 .0) (wide-size .ensures) in (omega (arith, k .whole), omega arith)
+    let k = cut _ starts (pre .1 .0) (usize-of-u8 .ensures) in (omega (arith, k .whole), omega arith)
 
 same-length : tie.Need-same-length
 same-length c = search needs
@@ -67,19 +67,19 @@ returns c =
     let back = c .before .before in
     let write-from = back .write-from in
     let back = back .before .before .before .before .before in
-    let wide-size = back .wide-size in
+    let usize-of-u8 = back .usize-of-u8 in
     let back = back .before .before .before .before in
     let args = back .args in
     let pre = back .pre in
     let starts = back .pre .0 in
-    let k = cut _ starts (pre .1 .0) (wide-size .ensures) in
+    let k = cut _ starts (pre .1 .0) (usize-of-u8 .ensures) in
     write-from .ensures ∙ ap (λ (s : List ℕ). put (now (args .out)) (args .at) (listedBytes (recordAt s (args .p .0)))) (k .bytes)
 
 pub write-point-spec : {M : Type 1} → statement M
 write-point-spec =
     tie.close
     (tie.spec
-    wide-size-requires
+    usize-of-u8-requires
     mul-a
     shared-slice-read-a
     add-e

@@ -1,11 +1,11 @@
 -- `list::stops::gather` meets its contract. Invariant: what is gathered, with what is still to come, is all that is to be gathered. Measure: the
--- selectors left. Assumes nothing.
+-- selectors left.
 use mathlib.Core.Path.{refl, sym, _∙_}
 use Prim.Native.Nat.{_-_}
 use Rattle.tray.specs.Frame.Code.{cut}
 use Rattle.walk.specs.Code.{placesOf, length-places, places-room}
 use Rattle.walk.specs.Code.Turns.{within, selector-is}
-use Rattle.list.specs.Stops.Code.{clear-le, Gathering, gathering-first, gathering-pass, gathering-names, gathered-past, gathered-no-run, gathered-all}
+use Rattle.list.specs.Stops.Code.{unmarked-le, Gathering, gathering-first, gathering-pass, gathering-names, gathered-past, gathered-no-run, gathered-all}
 use native.Mathlib.Omega.{arith}
 use borrow.Author.Needs.{needs}
 use Rattle.list.proofs.stops.gather.Statement.{statement}
@@ -26,8 +26,8 @@ add-first c =
     let walking = c .before .before .before .before .before .before .before .pre .0 in
     omega (arith, within walking (pre .1 .1 .0) (c .segment-at .ensures))
 
-wide-size-requires : tie.Need-wide-size-requires Inv-loop μ-loop
-wide-size-requires c κs = search needs
+usize-of-u8-requires : tie.Need-usize-of-u8-requires Inv-loop μ-loop
+usize-of-u8-requires c κs = search needs
 
 mul-first : tie.Need-mul-first Inv-loop μ-loop
 mul-first c = search needs
@@ -38,10 +38,10 @@ add-first-2 c =
     let back = c .before .before .before .before .before .before .before .before in
     let pre = back .pre in
     let walking = back .pre .0 in
-    omega (arith, within walking (pre .1 .1 .0) (segment-at .ensures), c .wide-size .ensures)
+    omega (arith, within walking (pre .1 .1 .0) (segment-at .ensures), c .usize-of-u8 .ensures)
 
-wide-size-requires-2 : tie.Need-wide-size-requires-2 Inv-loop μ-loop
-wide-size-requires-2 c κs = search needs
+usize-of-u8-requires-2 : tie.Need-usize-of-u8-requires-2 Inv-loop μ-loop
+usize-of-u8-requires-2 c κs = search needs
 
 loop-holds : tie.Need-loop-holds Inv-loop μ-loop
 loop-holds c =
@@ -51,25 +51,25 @@ loop-holds c =
 add-v : tie.Need-add-v Inv-loop μ-loop
 add-v c =
     let back = c .before .before in
-    let wide-size2 = back .wide-size2 in
-    let wide-size = back .before .wide-size in
+    let usize-of-u82 = back .usize-of-u82 in
+    let usize-of-u8 = back .before .usize-of-u8 in
     let segment-at = back .before .before .segment-at in
     let back = back .before .before .before .before .before .before .before .before .before in
     let pre = back .pre in
     let walking = back .pre .0 in
-    omega (arith, within walking (pre .1 .1 .0) (segment-at .ensures), wide-size .ensures, wide-size2 .ensures, c .loop-test .taken)
+    omega (arith, within walking (pre .1 .1 .0) (segment-at .ensures), usize-of-u8 .ensures, usize-of-u82 .ensures, c .loop-test .taken)
 
 shared-slice-read-v : tie.Need-shared-slice-read-v Inv-loop μ-loop
 shared-slice-read-v c =
     let loop-test = c .before .loop-test in
     let back = c .before .before .before in
-    let wide-size2 = back .wide-size2 in
-    let wide-size = back .before .wide-size in
+    let usize-of-u82 = back .usize-of-u82 in
+    let usize-of-u8 = back .before .usize-of-u8 in
     let segment-at = back .before .before .segment-at in
     let back = back .before .before .before .before .before .before .before .before .before in
     let pre = back .pre in
     let walking = back .pre .0 in
-    omega (arith, within walking (pre .1 .1 .0) (segment-at .ensures), wide-size .ensures, wide-size2 .ensures, loop-test .taken)
+    omega (arith, within walking (pre .1 .1 .0) (segment-at .ensures), usize-of-u8 .ensures, usize-of-u82 .ensures, loop-test .taken)
 
 add-s : tie.Need-add-s Inv-loop μ-loop
 add-s c = omega arith
@@ -82,43 +82,43 @@ loop-again c =
     let back = c .before .before in
     let loop-test = back .loop-test in
     let loop = back .before .loop in
-    let wide-size2 = back .before .before .wide-size2 in
-    let wide-size = back .before .before .before .wide-size in
+    let usize-of-u82 = back .before .before .usize-of-u82 in
+    let usize-of-u8 = back .before .before .before .usize-of-u8 in
     let segment-at = back .before .before .before .before .segment-at in
     let walking = back .before .before .before .before .before .before .before .before .before .before .before .pre .0 in
     gathering-pass
     (loop .inv)
     walking
-    (omega (arith, wide-size2 .ensures, loop-test .taken))
-    (selector-is walking _ _ (segment-at .ensures) (omega (arith, wide-size .ensures)) refl)
+    (omega (arith, usize-of-u82 .ensures, loop-test .taken))
+    (selector-is walking _ _ (segment-at .ensures) (omega (arith, usize-of-u8 .ensures)) refl)
     (c .if1 .taken)
 
-wide-size-requires-3 : tie.Need-wide-size-requires-3 Inv-loop μ-loop
-wide-size-requires-3 c κs = search needs
+usize-of-u8-requires-3 : tie.Need-usize-of-u8-requires-3 Inv-loop μ-loop
+usize-of-u8-requires-3 c κs = search needs
 
 mul-q : tie.Need-mul-q Inv-loop μ-loop
 mul-q c = search needs
 
 slice-read-q : tie.Need-slice-read-q Inv-loop μ-loop
 slice-read-q c =
-    let wide-size3 = c .before .wide-size3 in
+    let usize-of-u83 = c .before .usize-of-u83 in
     let if2 = c .before .before .if2 in
     let loop = c .before .before .before .before .before .before .loop in
     let walking =
     c .before .before .before .before .before .before .before .before .before .before .before .before .before .before .before .before .pre .0 in
-    omega (arith, places-room _ (loop .inv .room), walking .few, wide-size3 .ensures, if2 .taken)
+    omega (arith, places-room _ (loop .inv .room), walking .few, usize-of-u83 .ensures, if2 .taken)
 
 mul-if3 : tie.Need-mul-if3 Inv-loop μ-loop
 mul-if3 c = search needs
 
 shared-slice-read-if3 : tie.Need-shared-slice-read-if3 Inv-loop μ-loop
 shared-slice-read-if3 c =
-    let wide-size3 = c .before .before .wide-size3 in
+    let usize-of-u83 = c .before .before .usize-of-u83 in
     let if2 = c .before .before .before .if2 in
     let walking =
     c .before .before .before .before .before .before .before .before .before .before .before .before .before .before .before .before .before .pre .0
     in
-    omega (arith, walking .room, walking .few, wide-size3 .ensures, if2 .taken)
+    omega (arith, walking .room, walking .few, usize-of-u83 .ensures, if2 .taken)
 
 mul-ats : tie.Need-mul-ats Inv-loop μ-loop
 mul-ats c = search needs
@@ -126,22 +126,22 @@ mul-ats c = search needs
 shared-slice-read-ats : tie.Need-shared-slice-read-ats Inv-loop μ-loop
 shared-slice-read-ats c =
     let back = c .before .before .before .before in
-    let wide-size3 = back .wide-size3 in
+    let usize-of-u83 = back .usize-of-u83 in
     let if2 = back .before .if2 in
     let back = back .before .before .before .before .before .before .before .before .before .before .before .before .before .before .before in
     let walking = back .pre .0 in
     let starts = back .pre .1 .0 in
-    omega (arith, starts .room, walking .few, wide-size3 .ensures, if2 .taken)
+    omega (arith, starts .room, walking .few, usize-of-u83 .ensures, if2 .taken)
 
-size16-requires : tie.Need-size16-requires Inv-loop μ-loop
-size16-requires c κs = search needs
+usize-of-u16-requires : tie.Need-usize-of-u16-requires Inv-loop μ-loop
+usize-of-u16-requires c κs = search needs
 
 mul-ats-2 : tie.Need-mul-ats-2 Inv-loop μ-loop
 mul-ats-2 c =
     let if3 = c .before .before .if3 in
     let shared-slice-known6 = c .before .before .before .shared-slice-known6 in
-    let wide-size3 = c .before .before .before .before .before .wide-size3 in
-    omega (arith, c .size16 .ensures, shared-slice-known6 .given (wide-size3 .result), if3 .taken)
+    let usize-of-u83 = c .before .before .before .before .before .usize-of-u83 in
+    omega (arith, c .usize-of-u16 .ensures, shared-slice-known6 .given (usize-of-u83 .result), if3 .taken)
 
 add-ats : tie.Need-add-ats Inv-loop μ-loop
 add-ats c =
@@ -149,57 +149,57 @@ add-ats c =
     let if3 = back .if3 in
     let shared-slice-known6 = back .before .shared-slice-known6 in
     let back = back .before .before .before in
-    let wide-size3 = back .wide-size3 in
+    let usize-of-u83 = back .usize-of-u83 in
     let if2 = back .before .if2 in
     let back = back .before .before .before .before .before .before .before .before .before .before .before .before .before .before .before in
     let t-good = back .good .0 in
     let walking = back .pre .0 in
     let starts = back .pre .1 .0 in
-    let k = cut _ starts (omega (arith, walking .runs, if2 .taken)) (wide-size3 .ensures) in
-    omega (arith, k .start, k .end, t-good .0, c .size16 .ensures, shared-slice-known6 .given (wide-size3 .result), if3 .taken)
+    let k = cut _ starts (omega (arith, walking .runs, if2 .taken)) (usize-of-u83 .ensures) in
+    omega (arith, k .start, k .end, t-good .0, c .usize-of-u16 .ensures, shared-slice-known6 .given (usize-of-u83 .result), if3 .taken)
 
 mul-ats-3 : tie.Need-mul-ats-3 Inv-loop μ-loop
 mul-ats-3 c =
     let back = c .before .before .before .before .before .before .before .before .before in
     let loop-test = back .loop-test in
     let loop = back .before .loop in
-    let wide-size2 = back .before .before .wide-size2 in
+    let usize-of-u82 = back .before .before .usize-of-u82 in
     let back = back .before .before .before .before .before .before .before .before .before .before .before in
     let t-good = back .good .0 in
     let pre = back .pre in
-    omega (arith, loop .inv .few, loop-test .taken, wide-size2 .ensures, pre .1 .1 .3, loop .inv .kept, t-good .0)
+    omega (arith, loop .inv .few, loop-test .taken, usize-of-u82 .ensures, pre .1 .1 .3, loop .inv .kept, t-good .0)
 
 slice-write-ats : tie.Need-slice-write-ats Inv-loop μ-loop
 slice-write-ats c =
     let back = c .before .before .before .before .before .before .before .before .before in
     let loop-test = back .loop-test in
     let loop = back .before .loop in
-    let wide-size2 = back .before .before .wide-size2 in
+    let usize-of-u82 = back .before .before .usize-of-u82 in
     let back = back .before .before .before .before .before .before .before .before .before .before .before in
     let t-good = back .good .0 in
     let pre = back .pre in
-    omega (arith, loop .inv .few, loop-test .taken, wide-size2 .ensures, pre .1 .1 .3, loop .inv .kept, pre .1 .1 .3, loop .inv .kept, t-good .0)
+    omega (arith, loop .inv .few, loop-test .taken, usize-of-u82 .ensures, pre .1 .1 .3, loop .inv .kept, pre .1 .1 .3, loop .inv .kept, t-good .0)
 
-clear-requires : tie.Need-clear-requires Inv-loop μ-loop
-clear-requires c κs = search needs
+is-unmarked-requires : tie.Need-is-unmarked-requires Inv-loop μ-loop
+is-unmarked-requires c κs = search needs
 
 add-k : tie.Need-add-k Inv-loop μ-loop
 add-k c =
     let back = c .before .before .before .before .before .before .before .before .before .before in
     let loop-test = back .loop-test in
     let loop = back .before .loop in
-    let wide-size2 = back .before .before .wide-size2 in
+    let usize-of-u82 = back .before .before .usize-of-u82 in
     let back = back .before .before .before .before .before .before .before .before .before .before .before in
     let t-good = back .good .0 in
     let pre = back .pre in
-    omega (arith, clear-le _ (c .clear .ensures), loop .inv .few, loop-test .taken, wide-size2 .ensures, pre .1 .1 .3, loop .inv .kept, t-good .0)
+    omega (arith, unmarked-le _ (c .is-unmarked .ensures), loop .inv .few, loop-test .taken, usize-of-u82 .ensures, pre .1 .1 .3, loop .inv .kept, t-good .0)
 
 add-places : tie.Need-add-places Inv-loop μ-loop
 add-places c =
     let if3 = c .before .before .before .if3 in
     let shared-slice-known6 = c .before .before .before .before .shared-slice-known6 in
-    let wide-size3 = c .before .before .before .before .before .before .wide-size3 in
-    omega (arith, shared-slice-known6 .given (wide-size3 .result), if3 .taken)
+    let usize-of-u83 = c .before .before .before .before .before .before .usize-of-u83 in
+    omega (arith, shared-slice-known6 .given (usize-of-u83 .result), if3 .taken)
 
 mul-places : tie.Need-mul-places Inv-loop μ-loop
 mul-places c = omega arith
@@ -207,12 +207,12 @@ mul-places c = omega arith
 slice-write-places : tie.Need-slice-write-places Inv-loop μ-loop
 slice-write-places c =
     let back = c .before .before .before .before .before .before in
-    let wide-size3 = back .wide-size3 in
+    let usize-of-u83 = back .usize-of-u83 in
     let if2 = back .before .if2 in
     let loop = back .before .before .before .before .before .loop in
     let walking =
     back .before .before .before .before .before .before .before .before .before .before .before .before .before .before .before .pre .0 in
-    omega (arith, places-room _ (loop .inv .room), walking .few, wide-size3 .ensures, if2 .taken)
+    omega (arith, places-room _ (loop .inv .room), walking .few, usize-of-u83 .ensures, if2 .taken)
 
 add-s-2 : tie.Need-add-s-2 Inv-loop μ-loop
 add-s-2 c = omega arith
@@ -223,11 +223,11 @@ loop-less-2 c = omega arith
 loop-again-2 : tie.Need-loop-again-2 Inv-loop μ-loop
 loop-again-2 c =
     let back = c .before in
-    let size16 = back .size16 in
+    let usize-of-u16 = back .usize-of-u16 in
     let back = back .before .before in
     let if3 = back .if3 in
     let back = back .before .before .before in
-    let wide-size3 = back .wide-size3 in
+    let usize-of-u83 = back .usize-of-u83 in
     let back = back .before in
     let if2 = back .if2 in
     let back = back .before in
@@ -236,8 +236,8 @@ loop-again-2 c =
     let loop-test = back .loop-test in
     let loop = back .before .loop in
     let back = back .before .before in
-    let wide-size2 = back .wide-size2 in
-    let wide-size = back .before .wide-size in
+    let usize-of-u82 = back .usize-of-u82 in
+    let usize-of-u8 = back .before .usize-of-u8 in
     let segment-at = back .before .before .segment-at in
     let back = back .before .before .before .before .before .before .before .before .before in
     let pre = back .pre in
@@ -246,17 +246,17 @@ loop-again-2 c =
     gathering-names _
     (loop .inv)
     walking
-    (omega (arith, wide-size2 .ensures, loop-test .taken))
-    (selector-is walking _ _ (segment-at .ensures) (omega (arith, wide-size .ensures)) refl)
+    (omega (arith, usize-of-u82 .ensures, loop-test .taken))
+    (selector-is walking _ _ (segment-at .ensures) (omega (arith, usize-of-u8 .ensures)) refl)
     (if1 .left)
     (if2 .taken)
-    (wide-size3 .ensures)
+    (usize-of-u83 .ensures)
     (if3 .taken)
     starts
     (omega (arith, pre .1 .1 .3, loop .inv .kept))
     refl
-    (size16 .ensures)
-    (c .clear .ensures)
+    (usize-of-u16 .ensures)
+    (c .is-unmarked .ensures)
 
 same-length : tie.Need-same-length Inv-loop μ-loop
 same-length c =
@@ -273,25 +273,25 @@ same-length-2 c =
 returns : tie.Need-returns Inv-loop μ-loop
 returns c =
     let back = c .before .before .before in
-    let wide-size3 = back .wide-size3 in
+    let usize-of-u83 = back .usize-of-u83 in
     let if2 = back .before .if2 in
     let back = back .before .before in
     let if1 = back .if1 in
     let back = back .before .before in
     let loop-test = back .loop-test in
     let loop = back .before .loop in
-    let wide-size2 = back .before .before .wide-size2 in
-    let wide-size = back .before .before .before .wide-size in
+    let usize-of-u82 = back .before .before .usize-of-u82 in
+    let usize-of-u8 = back .before .before .before .usize-of-u8 in
     let segment-at = back .before .before .before .before .segment-at in
     let walking = back .before .before .before .before .before .before .before .before .before .before .before .pre .0 in
     gathered-past _
     (loop .inv)
     walking
-    (omega (arith, wide-size2 .ensures, loop-test .taken))
-    (selector-is walking _ _ (segment-at .ensures) (omega (arith, wide-size .ensures)) refl)
+    (omega (arith, usize-of-u82 .ensures, loop-test .taken))
+    (selector-is walking _ _ (segment-at .ensures) (omega (arith, usize-of-u8 .ensures)) refl)
     (if1 .left)
     (if2 .taken)
-    (wide-size3 .ensures)
+    (usize-of-u83 .ensures)
     (c .if3 .left)
 
 same-length-3 : tie.Need-same-length-3 Inv-loop μ-loop
@@ -311,15 +311,15 @@ returns-2 c =
     let back = c .before .before .before in
     let loop-test = back .loop-test in
     let loop = back .before .loop in
-    let wide-size2 = back .before .before .wide-size2 in
-    let wide-size = back .before .before .before .wide-size in
+    let usize-of-u82 = back .before .before .usize-of-u82 in
+    let usize-of-u8 = back .before .before .before .usize-of-u8 in
     let segment-at = back .before .before .before .before .segment-at in
     let walking = back .before .before .before .before .before .before .before .before .before .before .before .pre .0 in
     gathered-no-run
     (loop .inv)
     walking
-    (omega (arith, wide-size2 .ensures, loop-test .taken))
-    (selector-is walking _ _ (segment-at .ensures) (omega (arith, wide-size .ensures)) refl)
+    (omega (arith, usize-of-u82 .ensures, loop-test .taken))
+    (selector-is walking _ _ (segment-at .ensures) (omega (arith, usize-of-u8 .ensures)) refl)
     (if1 .left)
     (c .if2 .left)
 
@@ -337,8 +337,8 @@ same-length-6 c =
 returns-3 : tie.Need-returns-3 Inv-loop μ-loop
 returns-3 c =
     let loop = c .before .loop in
-    let wide-size2 = c .before .before .wide-size2 in
-    gathered-all (loop .inv) (wide-size2 .ensures) (c .loop-test .left)
+    let usize-of-u82 = c .before .before .usize-of-u82 in
+    gathered-all (loop .inv) (usize-of-u82 .ensures) (c .loop-test .left)
 
 pub gather-spec : {M : Type 1} → statement M
 gather-spec =
@@ -348,29 +348,29 @@ gather-spec =
     μ-loop
     segment-at-requires
     add-first
-    wide-size-requires
+    usize-of-u8-requires
     mul-first
     add-first-2
-    wide-size-requires-2
+    usize-of-u8-requires-2
     loop-holds
     add-v
     shared-slice-read-v
     add-s
     loop-less
     loop-again
-    wide-size-requires-3
+    usize-of-u8-requires-3
     mul-q
     slice-read-q
     mul-if3
     shared-slice-read-if3
     mul-ats
     shared-slice-read-ats
-    size16-requires
+    usize-of-u16-requires
     mul-ats-2
     add-ats
     mul-ats-3
     slice-write-ats
-    clear-requires
+    is-unmarked-requires
     add-k
     add-places
     mul-places

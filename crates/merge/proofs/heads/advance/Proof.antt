@@ -1,4 +1,4 @@
--- `merge::heads::advance` meets its contract: one run moves, and its block is kept anew. Assumes nothing.
+-- `merge::heads::advance` meets its contract: one run moves, and its block is kept anew.
 use lib.ListN.{length-set}
 use mathlib.Core.Path.{refl, _∙_}
 use Rattle.merge.specs.Heads.Leads.Laws.{half-set, runs-there, place-low, raised, moved, after-is}
@@ -7,14 +7,9 @@ use native.Mathlib.Omega.{arith}
 use borrow.Author.Needs.{needs}
 use Rattle.merge.proofs.heads.advance.Statement.{statement}
 use Rattle.merge.proofs.heads.advance.Tie as tie
-use Rattle.merge.proofs.heads.advance.Reads as reads
-use Rattle.merge.proofs.heads.advance.Lts as lts
-use Rattle.merge.proofs.lead.keep.Reads as keep-reads
-use Rattle.merge.proofs.heads.key_after.Reads as key-after-reads
-use Rattle.number.proofs.wide_size.Reads as wide-size-reads
 
-wide-size-requires : tie.Need-wide-size-requires
-wide-size-requires c κs = search needs
+usize-of-u8-requires : tie.Need-usize-of-u8-requires
+usize-of-u8-requires c κs = search needs
 
 mul-a : tie.Need-mul-a
 mul-a c = search needs
@@ -39,12 +34,12 @@ slice-read-p c = search needs
 
 add-p : tie.Need-add-p
 add-p c =
-    let wide-size = c .before .before .before .wide-size in
+    let usize-of-u8 = c .before .before .before .usize-of-u8 in
     let back = c .before .before .before .before .before .before .before .before .before .before .before .before in
     let pre = back .pre in
     let heading = back .pre .0 in
-    let v = place-low (heading .caching .reading) (pre .1 .0) (wide-size .ensures) (pre .1 .1) in
-    let k = run-cut (heading .caching .reading) (pre .1 .0) (wide-size .ensures) in omega (arith, k .few)
+    let v = place-low (heading .caching .reading) (pre .1 .0) (usize-of-u8 .ensures) (pre .1 .1) in
+    let k = run-cut (heading .caching .reading) (pre .1 .0) (usize-of-u8 .ensures) in omega (arith, k .few)
 
 mul-keys : tie.Need-mul-keys
 mul-keys c = search needs
@@ -61,29 +56,29 @@ slice-write-keys c = search needs
 sub-key-after : tie.Need-sub-key-after
 sub-key-after c =
     let back = c .before .before .before .before in
-    let wide-size = back .wide-size in
+    let usize-of-u8 = back .usize-of-u8 in
     let back = back .before .before .before .before .before .before .before .before .before in
     let pre = back .pre in
     let heading = back .pre .0 in
-    run-cut (heading .caching .reading) (pre .1 .0) (wide-size .ensures) .start
+    run-cut (heading .caching .reading) (pre .1 .0) (usize-of-u8 .ensures) .start
 
 part-key-after-start : tie.Need-part-key-after-start
 part-key-after-start c =
     let back = c .before .before .before .before in
-    let wide-size = back .wide-size in
+    let usize-of-u8 = back .usize-of-u8 in
     let back = back .before .before .before .before .before .before .before .before .before in
     let pre = back .pre in
     let heading = back .pre .0 in
-    run-cut (heading .caching .reading) (pre .1 .0) (wide-size .ensures) .start
+    run-cut (heading .caching .reading) (pre .1 .0) (usize-of-u8 .ensures) .start
 
 part-key-after-end : tie.Need-part-key-after-end
 part-key-after-end c =
     let back = c .before .before .before .before in
-    let wide-size = back .wide-size in
+    let usize-of-u8 = back .usize-of-u8 in
     let back = back .before .before .before .before .before .before .before .before .before in
     let pre = back .pre in
     let heading = back .pre .0 in
-    run-cut (heading .caching .reading) (pre .1 .0) (wide-size .ensures) .end
+    run-cut (heading .caching .reading) (pre .1 .0) (usize-of-u8 .ensures) .end
 
 mul-key-after : tie.Need-mul-key-after
 mul-key-after c = search needs
@@ -94,11 +89,11 @@ shared-slice-read-key-after c = search needs
 key-after-requires : tie.Need-key-after-requires
 key-after-requires c κs =
     let back = c .before .before .before .before .before .before in
-    let wide-size = back .wide-size in
+    let usize-of-u8 = back .usize-of-u8 in
     let back = back .before .before .before .before .before .before .before .before .before in
     let pre = back .pre in
     let heading = back .pre .0 in
-    run-cut (heading .caching .reading) (pre .1 .0) (wide-size .ensures) .whole
+    run-cut (heading .caching .reading) (pre .1 .0) (usize-of-u8 .ensures) .whole
 
 mul-nexts : tie.Need-mul-nexts
 mul-nexts c = search needs
@@ -122,7 +117,7 @@ shared-slice-read-keep c =
 keep-requires : tie.Need-keep-requires
 keep-requires c κs =
     let back = c .before .before .before .before .before .before .before .before .before .before .before in
-    let wide-size = back .wide-size in
+    let usize-of-u8 = back .usize-of-u8 in
     let back = back .before .before .before .before .before .before .before .before .before in
     let pre = back .pre in
     let heading = back .pre .0 in (
@@ -130,7 +125,7 @@ keep-requires c κs =
       omega (arith, pre .1 .0, heading .caching .reading .few),
       heading .leading .room-tops,
       heading .leading .room-firsts,
-      half-set _ _ (heading .caching .padded) (pre .1 .0) (wide-size .ensures),
+      half-set _ _ (heading .caching .padded) (pre .1 .0) (usize-of-u8 .ensures),
     )
 
 same-length : tie.Need-same-length
@@ -155,18 +150,18 @@ returns c =
     let back = back .before .before .before .before .before in
     let key-after = back .key-after in
     let back = back .before .before .before .before .before .before .before in
-    let wide-size = back .wide-size in
+    let usize-of-u8 = back .usize-of-u8 in
     let back = back .before .before .before .before .before .before .before .before .before in
     let pre = back .pre in
     let heading = back .pre .0 in (
-      raised _ (wide-size .ensures),
+      raised _ (usize-of-u8 .ensures),
       moved heading
           (pre .1 .0)
-          (wide-size .ensures)
+          (usize-of-u8 .ensures)
           refl refl
           (key-after .ensures
-          ∙ after-is (heading .caching .reading) (pre .1 .0) (wide-size .ensures)
-          (run-cut (heading .caching .reading) (pre .1 .0) (wide-size .ensures) .bytes) refl refl)
+          ∙ after-is (heading .caching .reading) (pre .1 .0) (usize-of-u8 .ensures)
+          (run-cut (heading .caching .reading) (pre .1 .0) (usize-of-u8 .ensures) .bytes) refl refl)
           (keep .ensures),
     )
 
@@ -174,7 +169,7 @@ pub advance-spec : {M : Type 1} → statement M
 advance-spec =
     tie.close
     (tie.spec
-    wide-size-requires
+    usize-of-u8-requires
     mul-a
     shared-slice-read-a
     add-e

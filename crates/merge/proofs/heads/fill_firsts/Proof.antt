@@ -1,13 +1,10 @@
--- `merge::heads::fill_firsts` meets its contract. Invariant: the firsts of b blocks are kept. Measure: the blocks left. Assumes nothing.
+-- `merge::heads::fill_firsts` meets its contract. Invariant: the firsts of b blocks are kept. Measure: the blocks left.
 use Prim.Native.Nat.{_-_}
 use Rattle.merge.specs.Heads.Leads.{Leading}
 use Rattle.merge.specs.Heads.Leads.Laws.{leading-none, leading-more, leading-all}
 use borrow.Author.Needs.{needs}
 use Rattle.merge.proofs.heads.fill_firsts.Statement.{statement}
 use Rattle.merge.proofs.heads.fill_firsts.Tie as tie
-use Rattle.merge.proofs.heads.fill_firsts.Reads as reads
-use Rattle.merge.proofs.heads.fill_firsts.Lts as lts
-use Rattle.merge.proofs.lead.keep.Reads as keep-reads
 
 abbrev Inv-loop : tie.InvT-loop
 Inv-loop keys tops₀ firsts₀ b₀ tops firsts b = Leading keys tops firsts b

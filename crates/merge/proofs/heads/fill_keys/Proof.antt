@@ -1,5 +1,5 @@
 -- `merge::heads::fill_keys` meets its contract. Invariant: the keys of the first r runs are found. Measure: the runs left.
--- `run-cut` says that the stretch handed on is run r. Assumes nothing.
+-- `run-cut` says that the stretch handed on is run r.
 use Rattle.merge.specs.Heads.Laws.{Found, found-none, found-more, found-all, next-is, run-cut}
 use lib.ListN.{getD}
 use mathlib.Core.Path.{refl, ap, _∙_}
@@ -20,8 +20,8 @@ loop-holds c =
     let pre = c .before .before .before .before .before .pre in
     found-none (pre .1 .1)
 
-wide-size-requires : tie.Need-wide-size-requires Inv-loop μ-loop
-wide-size-requires c κs = search needs
+usize-of-u8-requires : tie.Need-usize-of-u8-requires Inv-loop μ-loop
+usize-of-u8-requires c κs = search needs
 
 mul-a : tie.Need-mul-a Inv-loop μ-loop
 mul-a c = omega arith
@@ -44,21 +44,21 @@ shared-slice-read-e c =
 
 sub-head-key : tie.Need-sub-head-key Inv-loop μ-loop
 sub-head-key c =
-    let wide-size = c .before .before .wide-size in
+    let usize-of-u8 = c .before .before .usize-of-u8 in
     let reading = c .before .before .before .before .before .before .before .before .before .before .pre .0 in
-    run-cut reading (omega arith) (wide-size .ensures) .start
+    run-cut reading (omega arith) (usize-of-u8 .ensures) .start
 
 part-head-key-start : tie.Need-part-head-key-start Inv-loop μ-loop
 part-head-key-start c =
-    let wide-size = c .before .before .wide-size in
+    let usize-of-u8 = c .before .before .usize-of-u8 in
     let reading = c .before .before .before .before .before .before .before .before .before .before .pre .0 in
-    run-cut reading (omega arith) (wide-size .ensures) .start
+    run-cut reading (omega arith) (usize-of-u8 .ensures) .start
 
 part-head-key-end : tie.Need-part-head-key-end Inv-loop μ-loop
 part-head-key-end c =
-    let wide-size = c .before .before .wide-size in
+    let usize-of-u8 = c .before .before .usize-of-u8 in
     let reading = c .before .before .before .before .before .before .before .before .before .before .pre .0 in
-    run-cut reading (omega arith) (wide-size .ensures) .end
+    run-cut reading (omega arith) (usize-of-u8 .ensures) .end
 
 mul-head-key : tie.Need-mul-head-key Inv-loop μ-loop
 mul-head-key c = omega arith
@@ -78,9 +78,9 @@ shared-slice-read-t24 c =
 
 head-key-requires : tie.Need-head-key-requires Inv-loop μ-loop
 head-key-requires c κs =
-    let wide-size = c .before .before .before .before .before .wide-size in
+    let usize-of-u8 = c .before .before .before .before .before .usize-of-u8 in
     let reading = c .before .before .before .before .before .before .before .before .before .before .before .before .before .pre .0 in
-    run-cut reading (omega arith) (wide-size .ensures) .whole
+    run-cut reading (omega arith) (usize-of-u8 .ensures) .whole
 
 mul-keys : tie.Need-mul-keys Inv-loop μ-loop
 mul-keys c = omega arith
@@ -99,7 +99,7 @@ loop-less c = omega arith
 loop-again : tie.Need-loop-again Inv-loop μ-loop
 loop-again c =
     let back = c .before .before .before .before .before .before in
-    let wide-size = back .wide-size in
+    let usize-of-u8 = back .usize-of-u8 in
     let loop = back .before .before .loop in
     let back = back .before .before .before .before .before .before .before .before in
     let args = back .args in
@@ -108,10 +108,10 @@ loop-again c =
     (reading .few)
     (loop .inv)
     (omega arith)
-    (wide-size .ensures)
+    (usize-of-u8 .ensures)
     (c .head-key .ensures
-    ∙ next-is reading (omega arith) (wide-size .ensures) (run-cut reading (omega arith) (wide-size .ensures) .bytes) refl
-    (ap (λ j. getD (args .places .now) j 0) (wide-size .ensures)))
+    ∙ next-is reading (omega arith) (usize-of-u8 .ensures) (run-cut reading (omega arith) (usize-of-u8 .ensures) .bytes) refl
+    (ap (λ j. getD (args .places .now) j 0) (usize-of-u8 .ensures)))
 
 same-length : tie.Need-same-length Inv-loop μ-loop
 same-length c =
@@ -133,7 +133,7 @@ fill-keys-spec =
     Inv-loop
     μ-loop
     loop-holds
-    wide-size-requires
+    usize-of-u8-requires
     mul-a
     shared-slice-read-a
     add-e

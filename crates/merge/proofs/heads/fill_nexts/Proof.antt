@@ -1,4 +1,4 @@
--- `merge::heads::fill_nexts` meets its contract. Invariant: the keys of the first r runs are found. Measure: the runs left. Assumes nothing.
+-- `merge::heads::fill_nexts` meets its contract. Invariant: the keys of the first r runs are found. Measure: the runs left.
 use lib.ListN.{getD}
 use Prim.Native.Nat.{_-_, _+_}
 use mathlib.Core.Path.{refl, ap, _∙_}
@@ -9,10 +9,6 @@ use native.Mathlib.Omega.{arith}
 use borrow.Author.Needs.{needs}
 use Rattle.merge.proofs.heads.fill_nexts.Statement.{statement}
 use Rattle.merge.proofs.heads.fill_nexts.Tie as tie
-use Rattle.merge.proofs.heads.fill_nexts.Reads as reads
-use Rattle.merge.proofs.heads.fill_nexts.Lts as lts
-use Rattle.merge.proofs.heads.key_after.Reads as key-after-reads
-use Rattle.number.proofs.wide_size.Reads as wide-size-reads
 
 abbrev Inv-loop : tie.InvT-loop
 Inv-loop t h counts starts places nexts₀ r₀ nexts r = Nexts t places nexts r
@@ -25,8 +21,8 @@ loop-holds c =
     let pre = c .before .before .before .before .before .pre in
     nexts-none _ _ (pre .1 .1)
 
-wide-size-requires : tie.Need-wide-size-requires Inv-loop μ-loop
-wide-size-requires c κs = search needs
+usize-of-u8-requires : tie.Need-usize-of-u8-requires Inv-loop μ-loop
+usize-of-u8-requires c κs = search needs
 
 mul-a : tie.Need-mul-a Inv-loop μ-loop
 mul-a c = search needs
@@ -45,21 +41,21 @@ shared-slice-read-e c = search needs
 
 sub-key-after : tie.Need-sub-key-after Inv-loop μ-loop
 sub-key-after c =
-    let wide-size = c .before .before .wide-size in
+    let usize-of-u8 = c .before .before .usize-of-u8 in
     let reading = c .before .before .before .before .before .before .before .before .before .before .pre .0 in
-    run-cut reading (omega arith) (wide-size .ensures) .start
+    run-cut reading (omega arith) (usize-of-u8 .ensures) .start
 
 part-key-after-start : tie.Need-part-key-after-start Inv-loop μ-loop
 part-key-after-start c =
-    let wide-size = c .before .before .wide-size in
+    let usize-of-u8 = c .before .before .usize-of-u8 in
     let reading = c .before .before .before .before .before .before .before .before .before .before .pre .0 in
-    run-cut reading (omega arith) (wide-size .ensures) .start
+    run-cut reading (omega arith) (usize-of-u8 .ensures) .start
 
 part-key-after-end : tie.Need-part-key-after-end Inv-loop μ-loop
 part-key-after-end c =
-    let wide-size = c .before .before .wide-size in
+    let usize-of-u8 = c .before .before .usize-of-u8 in
     let reading = c .before .before .before .before .before .before .before .before .before .before .pre .0 in
-    run-cut reading (omega arith) (wide-size .ensures) .end
+    run-cut reading (omega arith) (usize-of-u8 .ensures) .end
 
 mul-key-after : tie.Need-mul-key-after Inv-loop μ-loop
 mul-key-after c = search needs
@@ -75,9 +71,9 @@ shared-slice-read-t24 c = search needs
 
 key-after-requires : tie.Need-key-after-requires Inv-loop μ-loop
 key-after-requires c κs =
-    let wide-size = c .before .before .before .before .before .wide-size in
+    let usize-of-u8 = c .before .before .before .before .before .usize-of-u8 in
     let reading = c .before .before .before .before .before .before .before .before .before .before .before .before .before .pre .0 in
-    run-cut reading (omega arith) (wide-size .ensures) .whole
+    run-cut reading (omega arith) (usize-of-u8 .ensures) .whole
 
 mul-nexts : tie.Need-mul-nexts Inv-loop μ-loop
 mul-nexts c = search needs
@@ -98,7 +94,7 @@ loop-less c = omega arith
 loop-again : tie.Need-loop-again Inv-loop μ-loop
 loop-again c =
     let back = c .before .before .before .before .before .before in
-    let wide-size = back .wide-size in
+    let usize-of-u8 = back .usize-of-u8 in
     let loop = back .before .before .loop in
     let back = back .before .before .before .before .before .before .before .before in
     let args = back .args in
@@ -106,10 +102,10 @@ loop-again c =
     nexts-more
     (loop .inv)
     (omega (arith, reading))
-    (wide-size .ensures)
+    (usize-of-u8 .ensures)
     (c .key-after .ensures
-    ∙ after-is reading (omega arith) (wide-size .ensures) (run-cut reading (omega arith) (wide-size .ensures) .bytes) refl
-    (ap (λ j. getD (args .places .now) j 0 + 1) (wide-size .ensures)))
+    ∙ after-is reading (omega arith) (usize-of-u8 .ensures) (run-cut reading (omega arith) (usize-of-u8 .ensures) .bytes) refl
+    (ap (λ j. getD (args .places .now) j 0 + 1) (usize-of-u8 .ensures)))
 
 same-length : tie.Need-same-length Inv-loop μ-loop
 same-length c =
@@ -130,7 +126,7 @@ fill-nexts-spec =
     Inv-loop
     μ-loop
     loop-holds
-    wide-size-requires
+    usize-of-u8-requires
     mul-a
     shared-slice-read-a
     add-e

@@ -1,4 +1,4 @@
--- `merge::heads::head_key` meets its contract: the key at the place, or the highest number past the end. Assumes nothing.
+-- `merge::heads::head_key` meets its contract: the key at the place, or the highest number past the end.
 use Rattle.merge.specs.Heads.Laws.{key-has, key-past}
 use native.Mathlib.Omega.{arith}
 use Rattle.merge.proofs.heads.head_key.Statement.{statement}

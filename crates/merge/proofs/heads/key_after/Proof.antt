@@ -1,11 +1,8 @@
--- `merge::heads::key_after` meets its contract: past the end every key is the highest number. Assumes nothing.
+-- `merge::heads::key_after` meets its contract: past the end every key is the highest number.
 use Rattle.merge.specs.Heads.Leads.Laws.{after-past}
 use borrow.Author.Needs.{needs}
 use Rattle.merge.proofs.heads.key_after.Statement.{statement}
 use Rattle.merge.proofs.heads.key_after.Tie as tie
-use Rattle.merge.proofs.heads.key_after.Reads as reads
-use Rattle.merge.proofs.heads.key_after.Lts as lts
-use Rattle.merge.proofs.heads.head_key.Reads as head-key-reads
 
 add-t6 : tie.Need-add-t6
 add-t6 c = search needs

@@ -1,9 +1,7 @@
--- `merge::lead::ahead` meets its contract: the test that was taken is the one that is said. Assumes nothing.
+-- `merge::lead::ahead` meets its contract: the test that was taken is the one that is said.
 use borrow.Author.Tests.{lt-ltb, le-ltb}
 use Rattle.merge.proofs.lead.ahead.Statement.{statement}
 use Rattle.merge.proofs.lead.ahead.Tie as tie
-use Rattle.merge.proofs.lead.ahead.Reads as reads
-use Rattle.merge.proofs.lead.ahead.Lts as lts
 
 returns : tie.Need-returns
 returns c = rw (lt-ltb _ _ (c .if1 .taken))

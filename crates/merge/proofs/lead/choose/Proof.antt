@@ -1,11 +1,8 @@
--- `merge::lead::choose` meets its contract. Assumes nothing.
+-- `merge::lead::choose` meets its contract.
 use Rattle.merge.specs.Heads.Leads.{keyed, left}
 use borrow.Author.Needs.{needs}
 use Rattle.merge.proofs.lead.choose.Statement.{statement}
 use Rattle.merge.proofs.lead.choose.Tie as tie
-use Rattle.merge.proofs.lead.choose.Reads as reads
-use Rattle.merge.proofs.lead.choose.Lts as lts
-use Rattle.merge.proofs.lead.first_left.Reads as first-left-reads
 
 returns : tie.Need-returns
 returns c = keyed (c .if1 .taken)

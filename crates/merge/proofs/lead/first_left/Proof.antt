@@ -1,12 +1,9 @@
--- `merge::lead::first_left` meets its contract. Invariant: the runs below r are at their end. Measure: the runs left. Assumes nothing.
+-- `merge::lead::first_left` meets its contract. Invariant: the runs below r are at their end. Measure: the runs left.
 use Prim.Native.Nat.{_-_}
 use Rattle.merge.specs.Heads.Leads.Laws.{Ended, ended-none, ended-more, left-here, left-none}
 use borrow.Author.Needs.{needs}
 use Rattle.merge.proofs.lead.first_left.Statement.{statement}
 use Rattle.merge.proofs.lead.first_left.Tie as tie
-use Rattle.merge.proofs.lead.first_left.Reads as reads
-use Rattle.merge.proofs.lead.first_left.Lts as lts
-use Rattle.number.proofs.wide_size.Reads as wide-size-reads
 
 abbrev Inv-loop : tie.InvT-loop
 Inv-loop counts places h r₀ r = Ended counts places h r
@@ -17,8 +14,8 @@ abbrev μ-loop : tie.MeasureT-loop
 loop-holds : tie.Need-loop-holds Inv-loop μ-loop
 loop-holds c = ended-none _ _
 
-wide-size-requires : tie.Need-wide-size-requires Inv-loop μ-loop
-wide-size-requires c κs = search needs
+usize-of-u8-requires : tie.Need-usize-of-u8-requires Inv-loop μ-loop
+usize-of-u8-requires c κs = search needs
 
 mul-if1 : tie.Need-mul-if1 Inv-loop μ-loop
 mul-if1 c = search needs
@@ -34,9 +31,9 @@ shared-slice-read-if1-2 c = search needs
 
 returns : tie.Need-returns Inv-loop μ-loop
 returns c =
-    let wide-size = c .before .before .before .wide-size in
+    let usize-of-u8 = c .before .before .before .usize-of-u8 in
     let loop = c .before .before .before .before .before .loop in
-    left-here (loop .inv) (wide-size .ensures) (c .if1 .taken)
+    left-here (loop .inv) (usize-of-u8 .ensures) (c .if1 .taken)
 
 add-r : tie.Need-add-r Inv-loop μ-loop
 add-r c = search needs
@@ -46,10 +43,10 @@ loop-less c = search needs
 
 loop-again : tie.Need-loop-again Inv-loop μ-loop
 loop-again c =
-    let wide-size = c .before .before .before .wide-size in
+    let usize-of-u8 = c .before .before .before .usize-of-u8 in
     let loop-test = c .before .before .before .before .loop-test in
     let loop = c .before .before .before .before .before .loop in
-    ended-more (loop .inv) (loop-test .taken) (wide-size .ensures) (c .if1 .left)
+    ended-more (loop .inv) (loop-test .taken) (usize-of-u8 .ensures) (c .if1 .left)
 
 returns-2 : tie.Need-returns-2 Inv-loop μ-loop
 returns-2 c =
@@ -63,7 +60,7 @@ first-left-spec =
     Inv-loop
     μ-loop
     loop-holds
-    wide-size-requires
+    usize-of-u8-requires
     mul-if1
     shared-slice-read-if1
     mul-if1-2

@@ -1,18 +1,13 @@
--- `merge::lead::keep` meets its contract. Assumes nothing.
+-- `merge::lead::keep` meets its contract.
 use mathlib.Core.Path.{sym}
 use Rattle.merge.specs.Heads.Leads.Laws.{half-first, kept-is}
 use native.Mathlib.Omega.{arith}
 use borrow.Author.Needs.{needs}
 use Rattle.merge.proofs.lead.keep.Statement.{statement}
 use Rattle.merge.proofs.lead.keep.Tie as tie
-use Rattle.merge.proofs.lead.keep.Reads as reads
-use Rattle.merge.proofs.lead.keep.Lts as lts
-use Rattle.merge.proofs.lead.eight.Reads as eight-reads
-use Rattle.merge.proofs.lead.four.Reads as four-reads
-use Rattle.number.proofs.wide_size.Reads as wide-size-reads
 
-four-requires : tie.Need-four-requires
-four-requires c κs = search needs
+least-of-4-requires : tie.Need-least-of-4-requires
+least-of-4-requires c κs = search needs
 
 slice-write-tops : tie.Need-slice-write-tops
 slice-write-tops c = search needs
@@ -30,16 +25,16 @@ returns : tie.Need-returns
 returns c =
     let if1 = c .before .if1 in
     let pre = c .before .before .before .before .before .pre in
-    kept-is _ _ (half-first (pre .4) (if1 .taken) (c .four .ensures) (omega arith)) (sym (pre .4 .only (if1 .taken)))
+    kept-is _ _ (half-first (pre .4) (if1 .taken) (c .least-of-4 .ensures) (omega arith)) (sym (pre .4 .only (if1 .taken)))
 
-mul-eight : tie.Need-mul-eight
-mul-eight c = search needs
+mul-least-of-8 : tie.Need-mul-least-of-8
+mul-least-of-8 c = search needs
 
-eight-requires : tie.Need-eight-requires
-eight-requires c κs = search needs
+least-of-8-requires : tie.Need-least-of-8-requires
+least-of-8-requires c κs = search needs
 
-wide-size-requires : tie.Need-wide-size-requires
-wide-size-requires c κs = search needs
+usize-of-u8-requires : tie.Need-usize-of-u8-requires
+usize-of-u8-requires c κs = search needs
 
 mul-tops : tie.Need-mul-tops
 mul-tops c = search needs
@@ -58,22 +53,22 @@ same-length-4 c = search needs
 
 returns-2 : tie.Need-returns-2
 returns-2 c =
-    let eight = c .before .eight in
-    kept-is _ _ (eight .ensures) (c .wide-size .ensures)
+    let least-of-8 = c .before .least-of-8 in
+    kept-is _ _ (least-of-8 .ensures) (c .usize-of-u8 .ensures)
 
 pub keep-spec : {M : Type 1} → statement M
 keep-spec =
     tie.close
     (tie.spec
-    four-requires
+    least-of-4-requires
     slice-write-tops
     slice-write-firsts
     same-length
     same-length-2
     returns
-    mul-eight
-    eight-requires
-    wide-size-requires
+    mul-least-of-8
+    least-of-8-requires
+    usize-of-u8-requires
     mul-tops
     slice-write-tops-2
     slice-write-firsts-2

@@ -1,10 +1,8 @@
--- `merge::lead::kept` meets its contract. Assumes nothing.
+-- `merge::lead::kept` meets its contract.
 use Rattle.merge.specs.Heads.Leads.Laws.{topped-one}
 use borrow.Author.Needs.{needs}
 use Rattle.merge.proofs.lead.kept.Statement.{statement}
 use Rattle.merge.proofs.lead.kept.Tie as tie
-use Rattle.merge.proofs.lead.kept.Reads as reads
-use Rattle.merge.proofs.lead.kept.Lts as lts
 
 mul-t4 : tie.Need-mul-t4
 mul-t4 c = search needs

@@ -1,14 +1,11 @@
--- `merge::lead::lead_at` meets its contract. Assumes nothing.
+-- `merge::lead::lead_at` meets its contract.
 use Rattle.merge.specs.Heads.Leads.Laws.{first-one}
 use borrow.Author.Needs.{needs}
 use Rattle.merge.proofs.lead.lead_at.Statement.{statement}
 use Rattle.merge.proofs.lead.lead_at.Tie as tie
-use Rattle.merge.proofs.lead.lead_at.Reads as reads
-use Rattle.merge.proofs.lead.lead_at.Lts as lts
-use Rattle.number.proofs.wide_size.Reads as wide-size-reads
 
-wide-size-requires : tie.Need-wide-size-requires
-wide-size-requires c κs = search needs
+usize-of-u8-requires : tie.Need-usize-of-u8-requires
+usize-of-u8-requires c κs = search needs
 
 mul-t4 : tie.Need-mul-t4
 mul-t4 c = search needs
@@ -18,8 +15,8 @@ shared-slice-read-t6 c = search needs
 
 returns : tie.Need-returns
 returns c =
-    let wide-size = c .before .wide-size in
-    first-one _ (wide-size .ensures)
+    let usize-of-u8 = c .before .usize-of-u8 in
+    first-one _ (usize-of-u8 .ensures)
 
 pub lead-at-spec : {M : Type 1} → statement M
-lead-at-spec = tie.close (tie.spec wide-size-requires mul-t4 shared-slice-read-t6 returns)
+lead-at-spec = tie.close (tie.spec usize-of-u8-requires mul-t4 shared-slice-read-t6 returns)

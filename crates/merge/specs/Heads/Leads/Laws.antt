@@ -6,7 +6,6 @@
 --     Ended, ended-none, -more, left-here, -none     the runs at their end, one by one
 --     nexts-none, -more, -all, after-is, -past       the keys after the next ones, run by run
 --     place-low, raised, moved                       one record taken
--- Assumes nothing.
 use mathlib.Core.Path.{_≡_, refl, sym, ap, _∙_, subst}
 use Prim.Native.Nat.{ℕ, _+_, _*_, _/_, _≤_, _<_}
 use native.Mathlib.Numerals.{add-one}

@@ -3,7 +3,6 @@
 --     first-of                     the first of the blocks is the first of the runs
 --     next-run, next-none          the run that is chosen comes next, and where none is, none does
 --     least-key                    the key that leads is the least one left
--- Assumes nothing.
 use mathlib.Core.Path.{_≡_, sym, _∙_, subst}
 use Prim.Native.Nat.{ℕ, _+_, _*_, _/_, _≤_, _<_}
 use native.Mathlib.Omega.{arith}

@@ -1,9 +1,9 @@
--- `next::calls::next` meets its contract. Assumes nothing.
+-- `next::calls::next` meets its contract.
 use mathlib.Core.Path.{sym, _∙_}
 use Rattle.tray.specs.Frame.Code.{opened}
 use Rattle.index.specs.Layout.Code.{laid}
 use Rattle.answers.specs.Next.{refusedNext, nextAnswer}
-use Rattle.walk.specs.Answers.Code.{frames-tray, frames-index, frames-fit}
+use Rattle.answers.specs.Code.{frames-tray, frames-index, frames-fit}
 use borrow.Author.Needs.{needs}
 use Rattle.next.proofs.calls.next.Statement.{statement}
 use Rattle.next.proofs.calls.next.Tie as tie

@@ -1,31 +1,21 @@
--- `next::calls::next_framed` meets its contract. Assumes nothing.
+-- `next::calls::next_framed` meets its contract.
 use Rattle.walk_cursor.specs.Tested.{told-spot, belongs-low}
 use Rattle.next.specs.Code.{told-is, next-ends, next-off}
 use Rattle.next.specs.Next.{going}
-use Rattle.walk.specs.Answers.Code.{walking}
+use Rattle.answers.specs.Code.{walking}
 use borrow.Author.Needs.{needs}
 use Rattle.next.proofs.calls.next_framed.Statement.{statement}
 use Rattle.next.proofs.calls.next_framed.Tie as tie
-use Rattle.next.proofs.calls.next_framed.Reads as reads
-use Rattle.next.proofs.calls.next_framed.Lts as lts
-use Rattle.next.proofs.next.next_ends.Reads as next-ends-reads
-use Rattle.next.proofs.next.next_from.Reads as next-from-reads
-use Rattle.next.proofs.next.next_refused.Reads as next-refused-reads
-use Rattle.walk_cursor.proofs.belongs.Reads as belongs-reads
-use Rattle.walk_cursor.proofs.place_numbers.Reads as place-numbers-reads
 
--- src/calls.rt:27:18
 place-numbers-requires : tie.Need-place-numbers-requires
 place-numbers-requires c κs = search needs
 
--- src/calls.rt:30:8
 belongs-requires : tie.Need-belongs-requires
 belongs-requires c κs =
     let opened = c .before .before .before .before .before .before .pre .0 in
     let laid = c .before .before .before .before .before .before .pre .1 in
     ((walking opened laid) .index, (walking opened laid) .few)
 
--- src/calls.rt:32:13
 next-from-requires : tie.Need-next-from-requires
 next-from-requires c κs =
     let if2 = c .before .if2 in
@@ -48,7 +38,6 @@ next-from-requires c κs =
       ),
     )
 
--- src/calls.rt:32:13
 returns : tie.Need-returns
 returns c =
     let back = c .before .before .before .before in
@@ -62,11 +51,9 @@ returns c =
     let laid = back .pre .1 in
     told-is (walking opened laid) _ (told-spot _ _ (args .from) (place-numbers .ensures) (belongs .ensures)) (if1 .taken) (c .next-from .ensures)
 
--- src/calls.rt:34:9
 next-ends-requires : tie.Need-next-ends-requires
 next-ends-requires c κs = search needs
 
--- src/calls.rt:34:9
 returns-2 : tie.Need-returns-2
 returns-2 c =
     let if2 = c .before .if2 in
@@ -87,15 +74,12 @@ returns-2 c =
     (if2 .left)
     (c .next-ends .ensures)
 
--- src/calls.rt:36:40
 cast-t17 : tie.Need-cast-t17
 cast-t17 c = search needs
 
--- src/calls.rt:36:5
 next-refused-requires : tie.Need-next-refused-requires
 next-refused-requires c κs = search needs
 
--- src/calls.rt:20:1
 returns-3 : tie.Need-returns-3
 returns-3 c =
     let back = c .before .before in

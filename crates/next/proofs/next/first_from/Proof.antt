@@ -1,5 +1,5 @@
 -- `next::next::first_from` meets its contract. Invariant: the walk from here answers for the walk past the cursor's selector. Measures: what is
--- left of the segment, and of the segments. Assumes nothing.
+-- left of the segment, and of the segments.
 use Rattle.next.specs.Next.Told.{starts, on-gap, on-go, on-stay, lost-run, lost-place, may-raise, told-found, told-lost, told-end}
 use Rattle.next.specs.Next.{Inner, Outer, walks, passed-gap, passed-record}
 use Rattle.walk.specs.Code.Turns.{within, selector-is, here-at, here-whole, here-into, here-end, here-enter}
@@ -12,17 +12,6 @@ use native.Mathlib.Omega.{arith}
 use borrow.Author.Needs.{needs}
 use Rattle.next.proofs.next.first_from.Statement.{statement}
 use Rattle.next.proofs.next.first_from.Tie as tie
-use Rattle.next.proofs.next.first_from.Reads as reads
-use Rattle.next.proofs.next.first_from.Lts as lts
-use Rattle.index.proofs.frame.segment_at.Reads as segment-at-reads
-use Rattle.next.proofs.next.found_next.Reads as found-next-reads
-use Rattle.next.proofs.next.next_ends.Reads as next-ends-reads
-use Rattle.next.proofs.next.next_refused.Reads as next-refused-reads
-use Rattle.number.proofs.wide_size.Reads as wide-size-reads
-use Rattle.tray.proofs.frame.count_of.Reads as count-of-reads
-use Rattle.walk.proofs.cursor.Cursor.past_gap.Reads as past-gap-reads
-use Rattle.walk.proofs.cursor.Cursor.past_record.Reads as past-record-reads
-use Rattle.walk.proofs.cursor.load.Reads as load-reads
 
 abbrev Inv-loop : tie.InvT-loop
 Inv-loop t x h d n from here at₀ g size s₀ first at s = Inner t x d n g s₀ at₀ s at
@@ -36,27 +25,22 @@ Inv-walk t x h d n from here at₀ g₀ size s₀ at g s = Outer t x d n from he
 abbrev μ-walk : tie.MeasureT-walk
 μ-walk t x h d n from here at₀ g₀ size s₀ at g s = n - g
 
--- src/next.rt:73:18
 past-gap-requires : tie.Need-past-gap-requires Inv-loop μ-loop Inv-walk μ-walk
 past-gap-requires c κs =
     let pre = c .before .before .pre in
     omega (arith, pre .1 .0 .1)
 
--- src/next.rt:75:14
 past-record-requires : tie.Need-past-record-requires Inv-loop μ-loop Inv-walk μ-walk
 past-record-requires c κs =
     let pre = c .before .before .before .before .pre in
     (omega (arith, pre .1 .0 .1), omega (arith, pre .1 .1 .0 (c .if1 .taken)), pre .1 .1 .1 (c .if1 .taken))
 
--- src/next.rt:78:9
-wide-size-requires : tie.Need-wide-size-requires Inv-loop μ-loop Inv-walk μ-walk
-wide-size-requires c κs = search needs
+usize-of-u8-requires : tie.Need-usize-of-u8-requires Inv-loop μ-loop Inv-walk μ-walk
+usize-of-u8-requires c κs = search needs
 
--- src/next.rt:79:9
-wide-size-requires-2 : tie.Need-wide-size-requires-2 Inv-loop μ-loop Inv-walk μ-walk
-wide-size-requires-2 c κs = search needs
+usize-of-u8-requires-2 : tie.Need-usize-of-u8-requires-2 Inv-loop μ-loop Inv-walk μ-walk
+usize-of-u8-requires-2 c κs = search needs
 
--- src/next.rt:80:5
 walk-holds : tie.Need-walk-holds Inv-loop μ-loop Inv-walk μ-walk
 walk-holds c =
     let back = c .before .before in
@@ -72,105 +56,90 @@ walk-holds c =
     _
     (⊎-elim (λ w. ap spotOf (w .2) ∙ passed-record _ (w .0 .taken) (w .1 .ensures))
     (λ w. ap spotOf (w .1) ∙ passed-gap _ (w .0 .left) (past-gap .ensures)) (if1 .came))
-    (c .wide-size2 .ensures)
+    (c .usize-of-u82 .ensures)
     (pre .1 .0 .0)
     (pre .1 .0 .1)
     (sym (length-map (args .from .places) _) ∙ from-good .1 .1 .1 .1 .0 .1 .0 .1)
 
--- src/next.rt:81:21
 segment-at-requires : tie.Need-segment-at-requires Inv-loop μ-loop Inv-walk μ-walk
 segment-at-requires c κs = search needs
 
--- src/next.rt:81:21
 add-first : tie.Need-add-first Inv-loop μ-loop Inv-walk μ-walk
 add-first c =
     let walk = c .before .walk in
     let going = c .before .before .before .before .before .before .before .before .pre .0 in
     omega (arith, within (walks going) (walk .inv .on .inside) (c .segment-at .ensures))
 
--- src/next.rt:81:62
-wide-size-requires-3 : tie.Need-wide-size-requires-3 Inv-loop μ-loop Inv-walk μ-walk
-wide-size-requires-3 c κs = search needs
+usize-of-u8-requires-3 : tie.Need-usize-of-u8-requires-3 Inv-loop μ-loop Inv-walk μ-walk
+usize-of-u8-requires-3 c κs = search needs
 
--- src/next.rt:81:58
 mul-first : tie.Need-mul-first Inv-loop μ-loop Inv-walk μ-walk
-mul-first c = omega (arith, c .wide-size3 .ensures)
+mul-first c = omega (arith, c .usize-of-u83 .ensures)
 
--- src/next.rt:81:21
 add-first-2 : tie.Need-add-first-2 Inv-loop μ-loop Inv-walk μ-walk
 add-first-2 c =
     let segment-at = c .before .segment-at in
     let walk = c .before .before .walk in
     let going = c .before .before .before .before .before .before .before .before .before .pre .0 in
-    omega (arith, within (walks going) (walk .inv .on .inside) (segment-at .ensures), c .wide-size3 .ensures)
+    omega (arith, within (walks going) (walk .inv .on .inside) (segment-at .ensures), c .usize-of-u83 .ensures)
 
--- src/next.rt:82:9
 loop-holds : tie.Need-loop-holds Inv-loop μ-loop Inv-walk μ-walk
 loop-holds c =
     let walk = c .before .before .walk in
     let going = c .before .before .before .before .before .before .before .before .before .pre .0 in
     here-at (walks going) _ _ _ 0 (walk .inv .on .inside) (walk .inv .on .high) (walk .inv .room)
 
--- src/next.rt:83:23
 add-v : tie.Need-add-v Inv-loop μ-loop Inv-walk μ-walk
 add-v c =
-    let wide-size3-ensures = c .before .before .wide-size3 .ensures in
+    let usize-of-u83-ensures = c .before .before .usize-of-u83 .ensures in
     let segment-at-ensures = c .before .before .before .segment-at .ensures in
     let walk-inv-on-inside = c .before .before .before .before .walk .inv .on .inside in
-    let wide-size-ensures = c .before .before .before .before .before .before .wide-size .ensures in
+    let usize-of-u8-ensures = c .before .before .before .before .before .before .usize-of-u8 .ensures in
     let going = c .before .before .before .before .before .before .before .before .before .before .before .pre .0 in
-    omega (arith, within (walks going) walk-inv-on-inside segment-at-ensures, wide-size3-ensures, wide-size-ensures)
+    omega (arith, within (walks going) walk-inv-on-inside segment-at-ensures, usize-of-u83-ensures, usize-of-u8-ensures)
 
--- src/next.rt:83:21
 shared-slice-read-v : tie.Need-shared-slice-read-v Inv-loop μ-loop Inv-walk μ-walk
 shared-slice-read-v c =
     let back = c .before .before .before in
-    let wide-size3 = back .wide-size3 in
+    let usize-of-u83 = back .usize-of-u83 in
     let segment-at = back .before .segment-at in
     let walk = back .before .before .walk in
-    let wide-size = back .before .before .before .before .wide-size in
+    let usize-of-u8 = back .before .before .before .before .usize-of-u8 in
     let going = back .before .before .before .before .before .before .before .before .before .pre .0 in
-    omega (arith, within (walks going) (walk .inv .on .inside) (segment-at .ensures), wide-size3 .ensures, wide-size .ensures)
+    omega (arith, within (walks going) (walk .inv .on .inside) (segment-at .ensures), usize-of-u83 .ensures, usize-of-u8 .ensures)
 
--- src/next.rt:85:17
 add-s : tie.Need-add-s Inv-loop μ-loop Inv-walk μ-walk
 add-s c = omega arith
 
--- src/next.rt:82:9
 loop-less : tie.Need-loop-less Inv-loop μ-loop Inv-walk μ-walk
 loop-less c = omega arith
 
--- src/next.rt:82:9
 loop-again : tie.Need-loop-again Inv-loop μ-loop Inv-walk μ-walk
 loop-again c =
     let back = c .before .before in
     let loop-test = back .loop-test in
     let loop = back .before .loop in
-    let wide-size3 = back .before .before .wide-size3 in
+    let usize-of-u83 = back .before .before .usize-of-u83 in
     let segment-at = back .before .before .before .segment-at in
-    let wide-size = back .before .before .before .before .before .before .wide-size in
+    let usize-of-u8 = back .before .before .before .before .before .before .usize-of-u8 in
     let going = back .before .before .before .before .before .before .before .before .before .before .before .pre .0 in
     on-gap going
     (loop .inv)
-    (omega (arith, loop-test .taken, wide-size .ensures))
-    (selector-is (walks going) _ _ (segment-at .ensures) (omega (arith, wide-size3 .ensures)) refl)
+    (omega (arith, loop-test .taken, usize-of-u8 .ensures))
+    (selector-is (walks going) _ _ (segment-at .ensures) (omega (arith, usize-of-u83 .ensures)) refl)
     (c .if2 .taken)
 
--- src/next.rt:90:21
-wide-size-requires-4 : tie.Need-wide-size-requires-4 Inv-loop μ-loop Inv-walk μ-walk
-wide-size-requires-4 c κs = search needs
+usize-of-u8-requires-4 : tie.Need-usize-of-u8-requires-4 Inv-loop μ-loop Inv-walk μ-walk
+usize-of-u8-requires-4 c κs = search needs
 
--- src/next.rt:91:25
 mul-p : tie.Need-mul-p Inv-loop μ-loop Inv-walk μ-walk
 mul-p c = omega arith
 
--- src/next.rt:91:25
 element-copy-out-p : tie.Need-element-copy-out-p Inv-loop μ-loop Inv-walk μ-walk
 element-copy-out-p c =
     let going = c .before .before .before .before .before .before .before .before .before .before .before .before .before .before .before .pre .0 in
-    omega (arith, going .few, c .wide-size4 .ensures)
+    omega (arith, going .few, c .usize-of-u84 .ensures)
 
--- src/next.rt:93:24
 count-of-requires : tie.Need-count-of-requires Inv-loop μ-loop Inv-walk μ-walk
 count-of-requires c κs =
     let if3 = c .before .before .if3 in
@@ -178,15 +147,13 @@ count-of-requires c κs =
     c .before .before .before .before .before .before .before .before .before .before .before .before .before .before .before .before .pre .0 in
     omega (arith, going .header, if3 .taken)
 
--- src/next.rt:95:37
 found-next-requires : tie.Need-found-next-requires Inv-loop μ-loop Inv-walk μ-walk
 found-next-requires c κs =
     let back = c .before .before .before .before .before .before .before .before in
     let loop-test = back .loop-test in
-    let wide-size = back .before .before .before .before .before .before .wide-size in
-    omega (arith, loop-test .taken, wide-size .ensures)
+    let usize-of-u8 = back .before .before .before .before .before .before .usize-of-u8 in
+    omega (arith, loop-test .taken, usize-of-u8 .ensures)
 
--- src/next.rt:97:42
 add-t44 : tie.Need-add-t44 Inv-loop μ-loop Inv-walk μ-walk
 add-t44 c =
     let back = c .before in
@@ -194,52 +161,47 @@ add-t44 c =
     let back = back .before in
     let count-of = back .count-of in
     let back = back .before .before in
-    let wide-size4 = back .wide-size4 in
+    let usize-of-u84 = back .usize-of-u84 in
     let if3 = back .before .if3 in
     let back = back .before .before in
     let if2 = back .if2 in
     let back = back .before .before in
     let loop-test = back .loop-test in
     let loop = back .before .loop in
-    let wide-size3 = back .before .before .wide-size3 in
+    let usize-of-u83 = back .before .before .usize-of-u83 in
     let segment-at = back .before .before .before .segment-at in
-    let wide-size = back .before .before .before .before .before .before .wide-size in
+    let usize-of-u8 = back .before .before .before .before .before .before .usize-of-u8 in
     let going = back .before .before .before .before .before .before .before .before .before .before .before .pre .0 in
     omega (
       arith,
       may-raise going
           (loop .inv)
-          (omega (arith, loop-test .taken, wide-size .ensures))
-          (selector-is (walks going) _ _ (segment-at .ensures) (omega (arith, wide-size3 .ensures)) refl)
+          (omega (arith, loop-test .taken, usize-of-u8 .ensures))
+          (selector-is (walks going) _ _ (segment-at .ensures) (omega (arith, usize-of-u83 .ensures)) refl)
           (if2 .left)
           (if3 .taken)
-          (wide-size4 .ensures)
+          (usize-of-u84 .ensures)
           (count-of .ensures)
           (omega (arith, if4 .taken)),
     )
 
--- src/next.rt:97:21
 mul-t46 : tie.Need-mul-t46 Inv-loop μ-loop Inv-walk μ-walk
 mul-t46 c = omega arith
 
--- src/next.rt:97:21
 element-set-from-at : tie.Need-element-set-from-at Inv-loop μ-loop Inv-walk μ-walk
 element-set-from-at c =
-    let wide-size4 = c .before .before .before .before .wide-size4 in
+    let usize-of-u84 = c .before .before .before .before .usize-of-u84 in
     let going =
     c .before .before .before .before .before .before .before .before .before .before .before .before .before .before .before .before .before .before
     .before .pre .0 in
-    omega (arith, going .few, wide-size4 .ensures)
+    omega (arith, going .few, usize-of-u84 .ensures)
 
--- src/next.rt:98:21
 add-s-2 : tie.Need-add-s-2 Inv-loop μ-loop Inv-walk μ-walk
 add-s-2 c = omega arith
 
--- src/next.rt:82:9
 loop-less-2 : tie.Need-loop-less-2 Inv-loop μ-loop Inv-walk μ-walk
 loop-less-2 c = omega arith
 
--- src/next.rt:82:9
 loop-again-2 : tie.Need-loop-again-2 Inv-loop μ-loop Inv-walk μ-walk
 loop-again-2 c =
     let back = c .before in
@@ -247,70 +209,60 @@ loop-again-2 c =
     let back = back .before in
     let count-of = back .count-of in
     let back = back .before .before in
-    let wide-size4 = back .wide-size4 in
+    let usize-of-u84 = back .usize-of-u84 in
     let if3 = back .before .if3 in
     let back = back .before .before in
     let if2 = back .if2 in
     let back = back .before .before in
     let loop-test = back .loop-test in
     let loop = back .before .loop in
-    let wide-size3 = back .before .before .wide-size3 in
+    let usize-of-u83 = back .before .before .usize-of-u83 in
     let segment-at = back .before .before .before .segment-at in
-    let wide-size = back .before .before .before .before .before .before .wide-size in
+    let usize-of-u8 = back .before .before .before .before .before .before .usize-of-u8 in
     let going = back .before .before .before .before .before .before .before .before .before .before .before .pre .0 in
     on-go going
     (loop .inv)
-    (omega (arith, loop-test .taken, wide-size .ensures))
-    (selector-is (walks going) _ _ (segment-at .ensures) (omega (arith, wide-size3 .ensures)) refl)
+    (omega (arith, loop-test .taken, usize-of-u8 .ensures))
+    (selector-is (walks going) _ _ (segment-at .ensures) (omega (arith, usize-of-u83 .ensures)) refl)
     (if2 .left)
     (if3 .taken)
-    (wide-size4 .ensures)
+    (usize-of-u84 .ensures)
     (count-of .ensures)
     (omega (arith, if4 .taken))
     (omega (arith, c .if5 .left))
 
--- src/next.rt:101:65
 cast-t49 : tie.Need-cast-t49 Inv-loop μ-loop Inv-walk μ-walk
 cast-t49 c = omega arith
 
--- src/next.rt:101:29
 next-refused-requires : tie.Need-next-refused-requires Inv-loop μ-loop Inv-walk μ-walk
 next-refused-requires c κs = search needs
 
--- src/next.rt:103:61
 cast-t51 : tie.Need-cast-t51 Inv-loop μ-loop Inv-walk μ-walk
 cast-t51 c = omega arith
 
--- src/next.rt:103:25
 next-refused-requires-2 : tie.Need-next-refused-requires-2 Inv-loop μ-loop Inv-walk μ-walk
 next-refused-requires-2 c κs = search needs
 
--- src/next.rt:105:9
 add-g : tie.Need-add-g Inv-loop μ-loop Inv-walk μ-walk
 add-g c =
     let loop = c .before .loop in
     omega (arith, loop .inv .on .inside)
 
--- src/next.rt:107:25
 next-ends-requires : tie.Need-next-ends-requires Inv-loop μ-loop Inv-walk μ-walk
 next-ends-requires c κs = search needs
 
--- src/next.rt:109:30
 segment-at-requires-2 : tie.Need-segment-at-requires-2 Inv-loop μ-loop Inv-walk μ-walk
 segment-at-requires-2 c κs = search needs
 
--- src/next.rt:109:13
 load-requires : tie.Need-load-requires Inv-loop μ-loop Inv-walk μ-walk
 load-requires c κs =
     let if6 = c .before .if6 in
     let going = c .before .before .before .before .before .before .before .before .before .before .before .before .before .pre .0 in
     (omega (arith, within (walks going) (if6 .left) (c .segment-at2 .ensures)), going .few)
 
--- src/next.rt:80:5
 walk-less : tie.Need-walk-less Inv-loop μ-loop Inv-walk μ-walk
 walk-less c = omega arith
 
--- src/next.rt:80:5
 walk-again : tie.Need-walk-again Inv-loop μ-loop Inv-walk μ-walk
 walk-again c =
     let segment-at2 = c .before .segment-at2 in
@@ -320,14 +272,13 @@ walk-again c =
     let loop = back .before .before .loop in
     let back = back .before .before .before .before .before in
     let walk = back .walk in
-    let wide-size = back .before .before .wide-size in
+    let usize-of-u8 = back .before .before .usize-of-u8 in
     let going = back .before .before .before .before .before .before .before .pre .0 in
     here-into
     (walks going)
-    (here-enter (walks going) (loop .inv) (omega (arith, loop-test .left, wide-size .ensures)) (if6 .left) (segment-at2 .ensures) (c .load .ensures))
+    (here-enter (walks going) (loop .inv) (omega (arith, loop-test .left, usize-of-u8 .ensures)) (if6 .left) (segment-at2 .ensures) (c .load .ensures))
     (here-whole (walks going) (walk .inv))
 
--- src/next.rt:67:1
 returns : tie.Need-returns Inv-loop μ-loop Inv-walk μ-walk
 returns c =
     let back = c .before in
@@ -337,7 +288,7 @@ returns c =
     let back = back .before in
     let count-of = back .count-of in
     let back = back .before .before in
-    let wide-size4 = back .wide-size4 in
+    let usize-of-u84 = back .usize-of-u84 in
     let back = back .before in
     let if3 = back .if3 in
     let if2 = back .before .if2 in
@@ -345,21 +296,20 @@ returns c =
     let loop-test = back .loop-test in
     let loop = back .before .loop in
     let back = back .before .before in
-    let wide-size3 = back .wide-size3 in
+    let usize-of-u83 = back .usize-of-u83 in
     let segment-at = back .before .segment-at in
     let walk = back .before .before .walk in
-    let wide-size = back .before .before .before .before .wide-size in
+    let usize-of-u8 = back .before .before .before .before .usize-of-u8 in
     let going = back .before .before .before .before .before .before .before .before .before .pre .0 in
     told-found _ _ _ _ _
     (omega (arith, if5 .taken))
-    (wide-size4 .ensures)
-    (on-stay going (loop .inv) (omega (arith, loop-test .taken, wide-size .ensures))
-    (selector-is (walks going) _ _ (segment-at .ensures) (omega (arith, wide-size3 .ensures)) refl) (if2 .left) (if3 .taken) (wide-size4 .ensures)
+    (usize-of-u84 .ensures)
+    (on-stay going (loop .inv) (omega (arith, loop-test .taken, usize-of-u8 .ensures))
+    (selector-is (walks going) _ _ (segment-at .ensures) (omega (arith, usize-of-u83 .ensures)) refl) (if2 .left) (if3 .taken) (usize-of-u84 .ensures)
     (count-of .ensures) (omega (arith, if4 .taken)) (omega (arith, if5 .taken))
     ∙ here-whole (walks going) (walk .inv))
     (c .found-next .ensures)
 
--- src/next.rt:67:1
 returns-2 : tie.Need-returns-2 Inv-loop μ-loop Inv-walk μ-walk
 returns-2 c =
     let back = c .before in
@@ -367,7 +317,7 @@ returns-2 c =
     let back = back .before in
     let count-of = back .count-of in
     let back = back .before .before in
-    let wide-size4 = back .wide-size4 in
+    let usize-of-u84 = back .usize-of-u84 in
     let back = back .before in
     let if3 = back .if3 in
     let if2 = back .before .if2 in
@@ -375,19 +325,18 @@ returns-2 c =
     let loop-test = back .loop-test in
     let loop = back .before .loop in
     let back = back .before .before in
-    let wide-size3 = back .wide-size3 in
+    let usize-of-u83 = back .usize-of-u83 in
     let segment-at = back .before .segment-at in
     let walk = back .before .before .walk in
-    let wide-size = back .before .before .before .before .wide-size in
+    let usize-of-u8 = back .before .before .before .before .usize-of-u8 in
     let going = back .before .before .before .before .before .before .before .before .before .pre .0 in
     told-lost _ _
-    (lost-place going (loop .inv) (omega (arith, loop-test .taken, wide-size .ensures))
-    (selector-is (walks going) _ _ (segment-at .ensures) (omega (arith, wide-size3 .ensures)) refl) (if2 .left) (if3 .taken) (wide-size4 .ensures)
+    (lost-place going (loop .inv) (omega (arith, loop-test .taken, usize-of-u8 .ensures))
+    (selector-is (walks going) _ _ (segment-at .ensures) (omega (arith, usize-of-u83 .ensures)) refl) (if2 .left) (if3 .taken) (usize-of-u84 .ensures)
     (count-of .ensures) (omega (arith, if4 .left))
     ∙ here-whole (walks going) (walk .inv))
     (c .next-refused .ensures)
 
--- src/next.rt:67:1
 returns-3 : tie.Need-returns-3 Inv-loop μ-loop Inv-walk μ-walk
 returns-3 c =
     let back = c .before in
@@ -397,18 +346,17 @@ returns-3 c =
     let loop-test = back .loop-test in
     let loop = back .before .loop in
     let back = back .before .before in
-    let wide-size3 = back .wide-size3 in
+    let usize-of-u83 = back .usize-of-u83 in
     let segment-at = back .before .segment-at in
     let walk = back .before .before .walk in
-    let wide-size = back .before .before .before .before .wide-size in
+    let usize-of-u8 = back .before .before .before .before .usize-of-u8 in
     let going = back .before .before .before .before .before .before .before .before .before .pre .0 in
     told-lost _ _
-    (lost-run going (loop .inv) (omega (arith, loop-test .taken, wide-size .ensures))
-    (selector-is (walks going) _ _ (segment-at .ensures) (omega (arith, wide-size3 .ensures)) refl) (if2 .left) (if3 .left)
+    (lost-run going (loop .inv) (omega (arith, loop-test .taken, usize-of-u8 .ensures))
+    (selector-is (walks going) _ _ (segment-at .ensures) (omega (arith, usize-of-u83 .ensures)) refl) (if2 .left) (if3 .left)
     ∙ here-whole (walks going) (walk .inv))
     (c .next-refused2 .ensures)
 
--- src/next.rt:67:1
 returns-4 : tie.Need-returns-4 Inv-loop μ-loop Inv-walk μ-walk
 returns-4 c =
     let if6 = c .before .if6 in
@@ -417,11 +365,11 @@ returns-4 c =
     let loop = back .before .loop in
     let back = back .before .before .before .before in
     let walk = back .walk in
-    let wide-size = back .before .before .wide-size in
+    let usize-of-u8 = back .before .before .usize-of-u8 in
     let going = back .before .before .before .before .before .before .before .pre .0 in
     told-end _ _
     (going .index .count)
-    (here-end (walks going) (loop .inv) (omega (arith, loop-test .left, wide-size .ensures)) (if6 .taken) ∙ here-whole (walks going) (walk .inv))
+    (here-end (walks going) (loop .inv) (omega (arith, loop-test .left, usize-of-u8 .ensures)) (if6 .taken) ∙ here-whole (walks going) (walk .inv))
     (c .next-ends .ensures)
 
 pub first-from-spec : {M : Type 1} → statement M
@@ -434,12 +382,12 @@ first-from-spec =
     μ-walk
     past-gap-requires
     past-record-requires
-    wide-size-requires
-    wide-size-requires-2
+    usize-of-u8-requires
+    usize-of-u8-requires-2
     walk-holds
     segment-at-requires
     add-first
-    wide-size-requires-3
+    usize-of-u8-requires-3
     mul-first
     add-first-2
     loop-holds
@@ -448,7 +396,7 @@ first-from-spec =
     add-s
     loop-less
     loop-again
-    wide-size-requires-4
+    usize-of-u8-requires-4
     mul-p
     element-copy-out-p
     count-of-requires

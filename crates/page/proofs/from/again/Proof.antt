@@ -1,4 +1,4 @@
--- `page::from::again` meets its contract: where the page began, or the segment's first selector. Assumes nothing.
+-- `page::from::again` meets its contract: where the page began, or the segment's first selector.
 use Rattle.walk.specs.Code.{spotOf}
 use Rattle.page.specs.Segments.{again-same, again-other}
 use native.Mathlib.Omega.{arith}

@@ -1,4 +1,4 @@
--- `page::from::more` meets its contract. Assumes nothing.
+-- `page::from::more` meets its contract.
 use mathlib.Core.Path.{refl}
 use Rattle.walk.specs.Code.{spotOf}
 use Rattle.list.specs.Page.{pagedOf, pagedAs}

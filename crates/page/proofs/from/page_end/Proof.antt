@@ -1,4 +1,4 @@
--- `page::from::page_end` meets its contract. Assumes nothing.
+-- `page::from::page_end` meets its contract.
 use mathlib.Core.Path.{refl}
 use Rattle.list.specs.Page.{pagedOf, pagedAs}
 use Rattle.page.proofs.from.page_end.Statement.{statement}

@@ -1,11 +1,11 @@
--- `page::from::page_from` meets its contract: both ways are the same page. Assumes nothing.
+-- `page::from::page_from` meets its contract: both ways are the same page.
 use Rattle.list.specs.Page.{begun}
 use borrow.Author.Needs.{needs}
 use Rattle.page.proofs.from.page_from.Statement.{statement}
 use Rattle.page.proofs.from.page_from.Tie as tie
 
-wide-size-requires : tie.Need-wide-size-requires
-wide-size-requires c κs = search needs
+usize-of-u8-requires : tie.Need-usize-of-u8-requires
+usize-of-u8-requires c κs = search needs
 
 page-segments-requires : tie.Need-page-segments-requires
 page-segments-requires c κs = search needs
@@ -35,7 +35,7 @@ pub page-from-spec : {M : Type 1} → statement M
 page-from-spec =
     tie.close
     (tie.spec
-    wide-size-requires
+    usize-of-u8-requires
     page-segments-requires
     same-length
     returns

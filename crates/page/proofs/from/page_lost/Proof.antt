@@ -1,4 +1,4 @@
--- `page::from::page_lost` meets its contract. Assumes nothing.
+-- `page::from::page_lost` meets its contract.
 use mathlib.Core.Path.{refl}
 use Rattle.list.specs.Page.{pagedOf, pagedAs}
 use native.Mathlib.Omega.{arith}

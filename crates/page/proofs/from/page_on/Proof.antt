@@ -1,5 +1,5 @@
 -- `page::from::page_on` meets its contract. Invariant of both loops: the page from here on answers for the page from where the loop
--- began, and the room is the same. Measures: the selectors left, the segments left. Assumes nothing.
+-- began, and the room is the same. Measures: the selectors left, the segments left.
 use mathlib.Core.Path.{_≡_, refl, sym, _∙_}
 use Prim.Native.Nat.{_-_}
 use lib.ListN.{length, length-map}
@@ -25,21 +25,21 @@ Inv-walk t x h d n counts starts wrote out₀ slots count₀ g₀ size s₀ plac
 abbrev μ-walk : tie.MeasureT-walk
 μ-walk t x h d n counts starts wrote out₀ slots count₀ g₀ size s₀ places₀ out count g s places = n - g
 
-wide-size-requires : tie.Need-wide-size-requires Inv-loop μ-loop Inv-walk μ-walk
-wide-size-requires c κs = search needs
+usize-of-u8-requires : tie.Need-usize-of-u8-requires Inv-loop μ-loop Inv-walk μ-walk
+usize-of-u8-requires c κs = search needs
 
-wide-size-requires-2 : tie.Need-wide-size-requires-2 Inv-loop μ-loop Inv-walk μ-walk
-wide-size-requires-2 c κs = search needs
+usize-of-u8-requires-2 : tie.Need-usize-of-u8-requires-2 Inv-loop μ-loop Inv-walk μ-walk
+usize-of-u8-requires-2 c κs = search needs
 
 walk-holds : tie.Need-walk-holds Inv-loop μ-loop Inv-walk μ-walk
 walk-holds c =
-    let wide-size2 = c .before .wide-size2 in
+    let usize-of-u82 = c .before .usize-of-u82 in
     let back = c .before .before .before .before .before .before .before .before in
     let args = back .args in
     let from-good = back .good .1 .1 .1 .1 .1 .1 .1 .0 in
     let pre = back .pre in
     let r : length (args .from .places) ≡ 63 = sym (length-map (args .from .places) _) ∙ from-good .1 .1 .1 .1 .0 .1 .0 .1 in
-    paging-first _ _ _ _ _ (pre .1 .1 .0) (omega (arith, pre .1 .1 .1, wide-size2 .ensures)) r refl
+    paging-first _ _ _ _ _ (pre .1 .1 .0) (omega (arith, pre .1 .1 .1, usize-of-u82 .ensures)) r refl
 
 segment-at-requires : tie.Need-segment-at-requires Inv-loop μ-loop Inv-walk μ-walk
 segment-at-requires c κs = search needs
@@ -50,8 +50,8 @@ add-first c =
     let walking = c .before .before .before .before .before .before .before .before .before .before .pre .0 in
     omega (arith, within walking (walk .inv .here .on .inside) (c .segment-at .ensures))
 
-wide-size-requires-3 : tie.Need-wide-size-requires-3 Inv-loop μ-loop Inv-walk μ-walk
-wide-size-requires-3 c κs = search needs
+usize-of-u8-requires-3 : tie.Need-usize-of-u8-requires-3 Inv-loop μ-loop Inv-walk μ-walk
+usize-of-u8-requires-3 c κs = search needs
 
 mul-first : tie.Need-mul-first Inv-loop μ-loop Inv-walk μ-walk
 mul-first c = omega arith
@@ -61,7 +61,7 @@ add-first-2 c =
     let segment-at = c .before .segment-at in
     let walk = c .before .before .walk in
     let walking = c .before .before .before .before .before .before .before .before .before .before .before .pre .0 in
-    omega (arith, within walking (walk .inv .here .on .inside) (segment-at .ensures), c .wide-size3 .ensures)
+    omega (arith, within walking (walk .inv .here .on .inside) (segment-at .ensures), c .usize-of-u83 .ensures)
 
 loop-holds : tie.Need-loop-holds Inv-loop μ-loop Inv-walk μ-walk
 loop-holds c =
@@ -71,22 +71,22 @@ loop-holds c =
 add-v : tie.Need-add-v Inv-loop μ-loop Inv-walk μ-walk
 add-v c =
     let loop = c .before .loop in
-    let wide-size3 = c .before .before .wide-size3 in
+    let usize-of-u83 = c .before .before .usize-of-u83 in
     let segment-at = c .before .before .before .segment-at in
-    let wide-size = c .before .before .before .before .before .before .before .wide-size in
+    let usize-of-u8 = c .before .before .before .before .before .before .before .usize-of-u8 in
     let walking = c .before .before .before .before .before .before .before .before .before .before .before .before .before .pre .0 in
-    omega (arith, within walking (loop .inv .here .on .inside) (segment-at .ensures), wide-size3 .ensures, wide-size .ensures, c .loop-test .taken)
+    omega (arith, within walking (loop .inv .here .on .inside) (segment-at .ensures), usize-of-u83 .ensures, usize-of-u8 .ensures, c .loop-test .taken)
 
 shared-slice-read-v : tie.Need-shared-slice-read-v Inv-loop μ-loop Inv-walk μ-walk
 shared-slice-read-v c =
     let loop-test = c .before .loop-test in
     let back = c .before .before in
     let loop = back .loop in
-    let wide-size3 = back .before .wide-size3 in
+    let usize-of-u83 = back .before .usize-of-u83 in
     let segment-at = back .before .before .segment-at in
-    let wide-size = back .before .before .before .before .before .before .wide-size in
+    let usize-of-u8 = back .before .before .before .before .before .before .usize-of-u8 in
     let walking = back .before .before .before .before .before .before .before .before .before .before .before .before .pre .0 in
-    omega (arith, within walking (loop .inv .here .on .inside) (segment-at .ensures), wide-size3 .ensures, wide-size .ensures, loop-test .taken)
+    omega (arith, within walking (loop .inv .here .on .inside) (segment-at .ensures), usize-of-u83 .ensures, usize-of-u8 .ensures, loop-test .taken)
 
 add-s : tie.Need-add-s Inv-loop μ-loop Inv-walk μ-walk
 add-s c = omega arith
@@ -99,19 +99,19 @@ loop-again c =
     let back = c .before .before in
     let loop-test = back .loop-test in
     let loop = back .before .loop in
-    let wide-size3 = back .before .before .wide-size3 in
+    let usize-of-u83 = back .before .before .usize-of-u83 in
     let segment-at = back .before .before .before .segment-at in
-    let wide-size = back .before .before .before .before .before .before .before .wide-size in
+    let usize-of-u8 = back .before .before .before .before .before .before .before .usize-of-u8 in
     let walking = back .before .before .before .before .before .before .before .before .before .before .before .before .before .pre .0 in
     paging-pass
     (loop .inv)
     walking
-    (omega (arith, wide-size .ensures, loop-test .taken))
-    (selector-is walking _ _ (segment-at .ensures) (omega (arith, wide-size3 .ensures)) refl)
+    (omega (arith, usize-of-u8 .ensures, loop-test .taken))
+    (selector-is walking _ _ (segment-at .ensures) (omega (arith, usize-of-u83 .ensures)) refl)
     (c .if1 .taken)
 
-wide-size-requires-4 : tie.Need-wide-size-requires-4 Inv-loop μ-loop Inv-walk μ-walk
-wide-size-requires-4 c κs = search needs
+usize-of-u8-requires-4 : tie.Need-usize-of-u8-requires-4 Inv-loop μ-loop Inv-walk μ-walk
+usize-of-u8-requires-4 c κs = search needs
 
 mul-p : tie.Need-mul-p Inv-loop μ-loop Inv-walk μ-walk
 mul-p c = omega arith
@@ -122,18 +122,18 @@ array-copy-out-p c =
     let walking =
     c .before .before .before .before .before .before .before .before .before .before .before .before .before .before .before .before .before .pre .0
     in
-    omega (arith, loop .inv .here .room, walking .few, c .wide-size4 .ensures)
+    omega (arith, loop .inv .here .room, walking .few, c .usize-of-u84 .ensures)
 
 mul-if3 : tie.Need-mul-if3 Inv-loop μ-loop Inv-walk μ-walk
 mul-if3 c = omega arith
 
 shared-slice-read-if3 : tie.Need-shared-slice-read-if3 Inv-loop μ-loop Inv-walk μ-walk
 shared-slice-read-if3 c =
-    let wide-size4 = c .before .before .wide-size4 in
+    let usize-of-u84 = c .before .before .usize-of-u84 in
     let walking =
     c .before .before .before .before .before .before .before .before .before .before .before .before .before .before .before .before .before .before
     .before .pre .0 in
-    omega (arith, walking .room, walking .few, wide-size4 .ensures)
+    omega (arith, walking .room, walking .few, usize-of-u84 .ensures)
 
 mul-write-point : tie.Need-mul-write-point Inv-loop μ-loop Inv-walk μ-walk
 mul-write-point c =
@@ -146,7 +146,7 @@ write-point-requires c κs =
     let if4 = back .if4 in
     let if3 = back .before .if3 in
     let back = back .before .before .before .before in
-    let wide-size4 = back .wide-size4 in
+    let usize-of-u84 = back .usize-of-u84 in
     let if2 = back .before .if2 in
     let back = back .before .before .before .before .before in
     let loop = back .loop in
@@ -155,8 +155,8 @@ write-point-requires c κs =
     let starts = back .pre .1 .0 in (
       starts,
       (
-        stays-run walking _ (loop .places) (if2 .taken) (wide-size4 .ensures) (if4 .taken),
-        stays-place walking _ (loop .places) (if2 .taken) (wide-size4 .ensures) (if3 .taken) (if4 .taken),
+        stays-run walking _ (loop .places) (if2 .taken) (usize-of-u84 .ensures) (if4 .taken),
+        stays-place walking _ (loop .places) (if2 .taken) (usize-of-u84 .ensures) (if3 .taken) (if4 .taken),
         omega (arith, loop .inv .room),
       ),
     )
@@ -177,8 +177,8 @@ add-t48 c =
     let back = c .before .before .before .before .before .before in
     let if3 = back .if3 in
     let shared-slice-known6 = back .before .shared-slice-known6 in
-    let wide-size4 = back .before .before .before .wide-size4 in
-    omega (arith, shared-slice-known6 .given (wide-size4 .result), if3 .taken)
+    let usize-of-u84 = back .before .before .before .usize-of-u84 in
+    omega (arith, shared-slice-known6 .given (usize-of-u84 .result), if3 .taken)
 
 mul-places : tie.Need-mul-places Inv-loop μ-loop Inv-walk μ-walk
 mul-places c = omega arith
@@ -186,12 +186,12 @@ mul-places c = omega arith
 array-set-from-places : tie.Need-array-set-from-places Inv-loop μ-loop Inv-walk μ-walk
 array-set-from-places c =
     let back = c .before .before .before .before .before .before .before .before .before in
-    let wide-size4 = back .wide-size4 in
+    let usize-of-u84 = back .usize-of-u84 in
     let loop = back .before .before .before .before .before .loop in
     let walking =
     back .before .before .before .before .before .before .before .before .before .before .before .before .before .before .before .before .before .pre
     .0 in
-    omega (arith, loop .inv .here .room, walking .few, wide-size4 .ensures)
+    omega (arith, loop .inv .here .room, walking .few, usize-of-u84 .ensures)
 
 add-s-2 : tie.Need-add-s-2 Inv-loop μ-loop Inv-walk μ-walk
 add-s-2 c = omega arith
@@ -210,25 +210,25 @@ loop-again-2 c =
     let back = back .before in
     let if3 = back .if3 in
     let back = back .before .before .before in
-    let wide-size4 = back .wide-size4 in
+    let usize-of-u84 = back .usize-of-u84 in
     let if2 = back .before .if2 in
     let back = back .before .before in
     let if1 = back .if1 in
     let back = back .before .before in
     let loop-test = back .loop-test in
     let loop = back .before .loop in
-    let wide-size3 = back .before .before .wide-size3 in
+    let usize-of-u83 = back .before .before .usize-of-u83 in
     let segment-at = back .before .before .before .segment-at in
-    let wide-size = back .before .before .before .before .before .before .before .wide-size in
+    let usize-of-u8 = back .before .before .before .before .before .before .before .usize-of-u8 in
     let walking = back .before .before .before .before .before .before .before .before .before .before .before .before .before .pre .0 in
     paging-write
     (loop .inv)
     walking
-    (omega (arith, wide-size .ensures, loop-test .taken))
-    (selector-is walking _ _ (segment-at .ensures) (omega (arith, wide-size3 .ensures)) refl)
+    (omega (arith, usize-of-u8 .ensures, loop-test .taken))
+    (selector-is walking _ _ (segment-at .ensures) (omega (arith, usize-of-u83 .ensures)) refl)
     (if1 .left)
     (if2 .taken)
-    (wide-size4 .ensures)
+    (usize-of-u84 .ensures)
     (if3 .taken)
     (if4 .taken)
     (if5 .taken)
@@ -238,15 +238,15 @@ more-requires : tie.Need-more-requires Inv-loop μ-loop Inv-walk μ-walk
 more-requires c κs =
     let back = c .before .before .before .before .before .before .before .before .before in
     let loop-test = back .loop-test in
-    let wide-size = back .before .before .before .before .before .before .before .wide-size in
-    omega (arith, loop-test .taken, wide-size .ensures)
+    let usize-of-u8 = back .before .before .before .before .before .before .before .usize-of-u8 in
+    omega (arith, loop-test .taken, usize-of-u8 .ensures)
 
 add-t53 : tie.Need-add-t53 Inv-loop μ-loop Inv-walk μ-walk
 add-t53 c =
     let if3 = c .before .if3 in
     let shared-slice-known6 = c .before .before .shared-slice-known6 in
-    let wide-size4 = c .before .before .before .before .wide-size4 in
-    omega (arith, shared-slice-known6 .given (wide-size4 .result), if3 .taken)
+    let usize-of-u84 = c .before .before .before .before .usize-of-u84 in
+    omega (arith, shared-slice-known6 .given (usize-of-u84 .result), if3 .taken)
 
 mul-places-2 : tie.Need-mul-places-2 Inv-loop μ-loop Inv-walk μ-walk
 mul-places-2 c = omega arith
@@ -254,12 +254,12 @@ mul-places-2 c = omega arith
 array-set-from-places-2 : tie.Need-array-set-from-places-2 Inv-loop μ-loop Inv-walk μ-walk
 array-set-from-places-2 c =
     let back = c .before .before .before .before in
-    let wide-size4 = back .wide-size4 in
+    let usize-of-u84 = back .usize-of-u84 in
     let loop = back .before .before .before .before .before .loop in
     let walking =
     back .before .before .before .before .before .before .before .before .before .before .before .before .before .before .before .before .before .pre
     .0 in
-    omega (arith, loop .inv .here .room, walking .few, wide-size4 .ensures)
+    omega (arith, loop .inv .here .room, walking .few, usize-of-u84 .ensures)
 
 add-s-3 : tie.Need-add-s-3 Inv-loop μ-loop Inv-walk μ-walk
 add-s-3 c = omega arith
@@ -272,39 +272,39 @@ loop-again-3 c =
     let back = c .before in
     let if3 = back .if3 in
     let back = back .before .before .before in
-    let wide-size4 = back .wide-size4 in
+    let usize-of-u84 = back .usize-of-u84 in
     let if2 = back .before .if2 in
     let back = back .before .before in
     let if1 = back .if1 in
     let back = back .before .before in
     let loop-test = back .loop-test in
     let loop = back .before .loop in
-    let wide-size3 = back .before .before .wide-size3 in
+    let usize-of-u83 = back .before .before .usize-of-u83 in
     let segment-at = back .before .before .before .segment-at in
-    let wide-size = back .before .before .before .before .before .before .before .wide-size in
+    let usize-of-u8 = back .before .before .before .before .before .before .before .usize-of-u8 in
     let walking = back .before .before .before .before .before .before .before .before .before .before .before .before .before .pre .0 in
     paging-marked
     (loop .inv)
     walking
-    (omega (arith, wide-size .ensures, loop-test .taken))
-    (selector-is walking _ _ (segment-at .ensures) (omega (arith, wide-size3 .ensures)) refl)
+    (omega (arith, usize-of-u8 .ensures, loop-test .taken))
+    (selector-is walking _ _ (segment-at .ensures) (omega (arith, usize-of-u83 .ensures)) refl)
     (if1 .left)
     (if2 .taken)
-    (wide-size4 .ensures)
+    (usize-of-u84 .ensures)
     (if3 .taken)
     (c .if4 .left)
 
 page-lost-requires : tie.Need-page-lost-requires Inv-loop μ-loop Inv-walk μ-walk
 page-lost-requires c κs =
     let loop-test = c .before .before .before .before .before .before .before .loop-test in
-    let wide-size = c .before .before .before .before .before .before .before .before .before .before .before .before .before .before .wide-size in
-    omega (arith, loop-test .taken, wide-size .ensures)
+    let usize-of-u8 = c .before .before .before .before .before .before .before .before .before .before .before .before .before .before .usize-of-u8 in
+    omega (arith, loop-test .taken, usize-of-u8 .ensures)
 
 page-lost-requires-2 : tie.Need-page-lost-requires-2 Inv-loop μ-loop Inv-walk μ-walk
 page-lost-requires-2 c κs =
     let loop-test = c .before .before .before .loop-test in
-    let wide-size = c .before .before .before .before .before .before .before .before .before .before .wide-size in
-    omega (arith, loop-test .taken, wide-size .ensures)
+    let usize-of-u8 = c .before .before .before .before .before .before .before .before .before .before .usize-of-u8 in
+    omega (arith, loop-test .taken, usize-of-u8 .ensures)
 
 add-g : tie.Need-add-g Inv-loop μ-loop Inv-walk μ-walk
 add-g c =
@@ -334,12 +334,12 @@ walk-again c =
     let loop = back .before .loop in
     let back = back .before .before .before .before in
     let walk = back .walk in
-    let wide-size = back .before .before .before .wide-size in
+    let usize-of-u8 = back .before .before .before .usize-of-u8 in
     let walking = back .before .before .before .before .before .before .before .before .before .pre .0 in
     paging-enter
     (paging-back (walk .inv) (loop .inv))
     walking
-    (omega (arith, wide-size .ensures, loop-test .left))
+    (omega (arith, usize-of-u8 .ensures, loop-test .left))
     (omega arith)
     (segment-at2 .ensures)
     (c .load .ensures)
@@ -358,7 +358,7 @@ returns c =
     let back = back .before in
     let if3 = back .if3 in
     let back = back .before .before .before in
-    let wide-size4 = back .wide-size4 in
+    let usize-of-u84 = back .usize-of-u84 in
     let back = back .before in
     let if2 = back .if2 in
     let back = back .before in
@@ -367,13 +367,13 @@ returns c =
     let loop-test = back .loop-test in
     let back = back .before in
     let loop = back .loop in
-    let wide-size3 = back .before .wide-size3 in
+    let usize-of-u83 = back .before .usize-of-u83 in
     let back = back .before .before in
     let segment-at = back .segment-at in
     let walk = back .before .walk in
     let back = back .before .before .before in
-    let wide-size2 = back .wide-size2 in
-    let wide-size = back .before .wide-size in
+    let usize-of-u82 = back .usize-of-u82 in
+    let usize-of-u8 = back .before .usize-of-u8 in
     let back = back .before .before .before .before .before .before .before in
     let args = back .args in
     let pre = back .pre in
@@ -381,14 +381,14 @@ returns c =
     c .more .ensures .of _
     ∙ here-stay walking
     ((paging-back (walk .inv) (loop .inv)) .here)
-    (omega (arith, wide-size .ensures, loop-test .taken))
-    (selector-is walking _ _ (segment-at .ensures) (omega (arith, wide-size3 .ensures)) refl)
+    (omega (arith, usize-of-u8 .ensures, loop-test .taken))
+    (selector-is walking _ _ (segment-at .ensures) (omega (arith, usize-of-u83 .ensures)) refl)
     (if1 .left)
     (if2 .taken)
-    (wide-size4 .ensures)
+    (usize-of-u84 .ensures)
     (if3 .taken)
-    (visit-full walking _ (loop .places) (if2 .taken) (wide-size4 .ensures) _ _ _ _ (if4 .taken) (omega (arith, loop .inv .room)))
-    ∙ onward-from walking (pageVisit _) (args .from) _ (wide-size2 .ensures) (pre .1 .1 .0)
+    (visit-full walking _ (loop .places) (if2 .taken) (usize-of-u84 .ensures) _ _ _ _ (if4 .taken) (omega (arith, loop .inv .room)))
+    ∙ onward-from walking (pageVisit _) (args .from) _ (usize-of-u82 .ensures) (pre .1 .1 .0)
 
 same-length-2 : tie.Need-same-length-2 Inv-loop μ-loop Inv-walk μ-walk
 same-length-2 c =
@@ -402,7 +402,7 @@ returns-2 c =
     let back = c .before in
     let if3 = back .if3 in
     let back = back .before .before .before in
-    let wide-size4 = back .wide-size4 in
+    let usize-of-u84 = back .usize-of-u84 in
     let back = back .before in
     let if2 = back .if2 in
     let back = back .before in
@@ -411,13 +411,13 @@ returns-2 c =
     let loop-test = back .loop-test in
     let back = back .before in
     let loop = back .loop in
-    let wide-size3 = back .before .wide-size3 in
+    let usize-of-u83 = back .before .usize-of-u83 in
     let back = back .before .before in
     let segment-at = back .segment-at in
     let walk = back .before .walk in
     let back = back .before .before .before in
-    let wide-size2 = back .wide-size2 in
-    let wide-size = back .before .wide-size in
+    let usize-of-u82 = back .usize-of-u82 in
+    let usize-of-u8 = back .before .usize-of-u8 in
     let back = back .before .before .before .before .before .before .before in
     let args = back .args in
     let pre = back .pre in
@@ -425,13 +425,13 @@ returns-2 c =
     c .page-lost .ensures .of _
     ∙ here-no-place walking
     ((paging-back (walk .inv) (loop .inv)) .here)
-    (omega (arith, wide-size .ensures, loop-test .taken))
-    (selector-is walking _ _ (segment-at .ensures) (omega (arith, wide-size3 .ensures)) refl)
+    (omega (arith, usize-of-u8 .ensures, loop-test .taken))
+    (selector-is walking _ _ (segment-at .ensures) (omega (arith, usize-of-u83 .ensures)) refl)
     (if1 .left)
     (if2 .taken)
-    (wide-size4 .ensures)
+    (usize-of-u84 .ensures)
     (if3 .left)
-    ∙ onward-from walking (pageVisit _) (args .from) _ (wide-size2 .ensures) (pre .1 .1 .0)
+    ∙ onward-from walking (pageVisit _) (args .from) _ (usize-of-u82 .ensures) (pre .1 .1 .0)
 
 same-length-3 : tie.Need-same-length-3 Inv-loop μ-loop Inv-walk μ-walk
 same-length-3 c =
@@ -449,13 +449,13 @@ returns-3 c =
     let loop-test = back .loop-test in
     let back = back .before in
     let loop = back .loop in
-    let wide-size3 = back .before .wide-size3 in
+    let usize-of-u83 = back .before .usize-of-u83 in
     let back = back .before .before in
     let segment-at = back .segment-at in
     let walk = back .before .walk in
     let back = back .before .before .before in
-    let wide-size2 = back .wide-size2 in
-    let wide-size = back .before .wide-size in
+    let usize-of-u82 = back .usize-of-u82 in
+    let usize-of-u8 = back .before .usize-of-u8 in
     let back = back .before .before .before .before .before .before .before in
     let args = back .args in
     let pre = back .pre in
@@ -463,11 +463,11 @@ returns-3 c =
     c .page-lost2 .ensures .of _
     ∙ here-no-run walking
     ((paging-back (walk .inv) (loop .inv)) .here)
-    (omega (arith, wide-size .ensures, loop-test .taken))
-    (selector-is walking _ _ (segment-at .ensures) (omega (arith, wide-size3 .ensures)) refl)
+    (omega (arith, usize-of-u8 .ensures, loop-test .taken))
+    (selector-is walking _ _ (segment-at .ensures) (omega (arith, usize-of-u83 .ensures)) refl)
     (if1 .left)
     (if2 .left)
-    ∙ onward-from walking (pageVisit _) (args .from) _ (wide-size2 .ensures) (pre .1 .1 .0)
+    ∙ onward-from walking (pageVisit _) (args .from) _ (usize-of-u82 .ensures) (pre .1 .1 .0)
 
 same-length-4 : tie.Need-same-length-4 Inv-loop μ-loop Inv-walk μ-walk
 same-length-4 c =
@@ -483,15 +483,15 @@ returns-4 c =
     let back = back .before .before .before .before in
     let walk = back .walk in
     let back = back .before .before in
-    let wide-size2 = back .wide-size2 in
-    let wide-size = back .before .wide-size in
+    let usize-of-u82 = back .usize-of-u82 in
+    let usize-of-u8 = back .before .usize-of-u8 in
     let back = back .before .before .before .before .before .before .before in
     let args = back .args in
     let pre = back .pre in
     let walking = back .pre .0 in
     c .page-end .ensures .of _
-    ∙ here-end walking ((paging-back (walk .inv) (loop .inv)) .here) (omega (arith, wide-size .ensures, loop-test .left)) (omega arith)
-    ∙ onward-from walking (pageVisit _) (args .from) _ (wide-size2 .ensures) (pre .1 .1 .0)
+    ∙ here-end walking ((paging-back (walk .inv) (loop .inv)) .here) (omega (arith, usize-of-u8 .ensures, loop-test .left)) (omega arith)
+    ∙ onward-from walking (pageVisit _) (args .from) _ (usize-of-u82 .ensures) (pre .1 .1 .0)
 
 pub page-on-spec : {M : Type 1} → statement M
 page-on-spec =
@@ -501,12 +501,12 @@ page-on-spec =
     μ-loop
     Inv-walk
     μ-walk
-    wide-size-requires
-    wide-size-requires-2
+    usize-of-u8-requires
+    usize-of-u8-requires-2
     walk-holds
     segment-at-requires
     add-first
-    wide-size-requires-3
+    usize-of-u8-requires-3
     mul-first
     add-first-2
     loop-holds
@@ -515,7 +515,7 @@ page-on-spec =
     add-s
     loop-less
     loop-again
-    wide-size-requires-4
+    usize-of-u8-requires-4
     mul-p
     array-copy-out-p
     mul-if3

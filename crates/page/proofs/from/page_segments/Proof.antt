@@ -1,5 +1,5 @@
 -- `page::from::page_segments` meets its contract. Invariant: the page from here on answers for the page from the cursor, what is written is written
--- inside the room, and the segment began where it is found again. Measure: the segments left. Assumes nothing.
+-- inside the room, and the segment began where it is found again. Measure: the segments left.
 use mathlib.Core.Path.{_≡_, refl, sym, ap, _∙_}
 use Prim.Native.Nat.{_-_}
 use lib.ListN.{length, length-map}
@@ -21,8 +21,8 @@ Inv-loop t x h d n counts starts from out₀ room size ats₀ count₀ g₀ s₀
 abbrev μ-loop : tie.MeasureT-loop
 μ-loop t x h d n counts starts from out₀ room size ats₀ count₀ g₀ s₀ places₀ out ats count g s places = n - g
 
-wide-size-requires : tie.Need-wide-size-requires Inv-loop μ-loop
-wide-size-requires c κs = search needs
+usize-of-u8-requires : tie.Need-usize-of-u8-requires Inv-loop μ-loop
+usize-of-u8-requires c κs = search needs
 
 place-numbers-requires : tie.Need-place-numbers-requires Inv-loop μ-loop
 place-numbers-requires c κs = search needs
@@ -46,8 +46,8 @@ loop-holds c =
       again = again-same _ _ _ _ _ _ refl;
     }
 
-wide-size-requires-2 : tie.Need-wide-size-requires-2 Inv-loop μ-loop
-wide-size-requires-2 c κs = search needs
+usize-of-u8-requires-2 : tie.Need-usize-of-u8-requires-2 Inv-loop μ-loop
+usize-of-u8-requires-2 c κs = search needs
 
 slice-aggregate-gather : tie.Need-slice-aggregate-gather Inv-loop μ-loop
 slice-aggregate-gather c =
@@ -60,7 +60,7 @@ slice-aggregate-gather-2 c = search needs
 gather-requires : tie.Need-gather-requires Inv-loop μ-loop
 gather-requires c κs =
     let back = c .before .before in
-    let wide-size2 = back .wide-size2 in
+    let usize-of-u82 = back .usize-of-u82 in
     let loop = back .before .loop in
     let back = back .before .before .before .before .before .before .before .before .before .before in
     let pre = back .pre in
@@ -71,7 +71,7 @@ gather-requires c κs =
         starts,
         (
           loop .inv .paging .here .on .inside,
-          omega (arith, loop .inv .paging .here .on .high, wide-size2 .ensures),
+          omega (arith, loop .inv .paging .here .on .high, usize-of-u82 .ensures),
           places-room _ (loop .inv .paging .here .room),
           omega (arith, pre .1 .1 .2, loop .inv .held),
         ),
@@ -163,7 +163,7 @@ add-count c =
 page-lost-requires : tie.Need-page-lost-requires Inv-loop μ-loop
 page-lost-requires c κs =
     let wide-size-ensures =
-    c .before .before .before .before .before .before .before .before .before .before .before .before .before .before .before .before .wide-size
+    c .before .before .before .before .before .before .before .before .before .before .before .before .before .before .before .before .usize-of-u8
     .ensures in
     omega (arith, c .if2 .taken, wide-size-ensures)
 
@@ -185,12 +185,12 @@ returns-2 c =
     let gather = back .gather in
     let gather-ats-kept = back .gather .kept .1 .1 .1 .1 .1 .1 .1 .1 .1 .1 .1 .0 in
     let back = back .before .before .before in
-    let wide-size2 = back .wide-size2 in
+    let usize-of-u82 = back .usize-of-u82 in
     let loop = back .before .loop in
     let back = back .before .before in
     let place-numbers = back .place-numbers in
     let back = back .before .before in
-    let wide-size = back .wide-size in
+    let usize-of-u8 = back .usize-of-u8 in
     let back = back .before .before .before .before .before .before in
     let args = back .args in
     let pre = back .pre in
@@ -200,12 +200,12 @@ returns-2 c =
     ∙ paging-lost
     (loop .inv .paging)
     (starts .frame)
-    (wide-size2 .ensures)
+    (usize-of-u82 .ensures)
     (gather .ensures)
     (omega (arith, gather .ensures .few, gather .ensures .high, gather-ats-kept, loop .inv .held, pre .1 .1 .2))
     (if1 .left)
     (put-all .ensures)
-    (omega (arith, if2 .taken, wide-size .ensures))
+    (omega (arith, if2 .taken, usize-of-u8 .ensures))
     ∙ onward-same _ _ _ _ _ _ _ _ (args .from .places) _ (place-numbers .ensures)
     ∙ onward-from walking (pageVisit _) (args .from) _ refl (pre .1 .1 .0)
 
@@ -239,12 +239,12 @@ returns-3 c =
     let gather = back .gather in
     let gather-ats-kept = back .gather .kept .1 .1 .1 .1 .1 .1 .1 .1 .1 .1 .1 .0 in
     let back = back .before .before .before in
-    let wide-size2 = back .wide-size2 in
+    let usize-of-u82 = back .usize-of-u82 in
     let loop = back .before .loop in
     let back = back .before .before in
     let place-numbers = back .place-numbers in
     let back = back .before .before in
-    let wide-size = back .wide-size in
+    let usize-of-u8 = back .usize-of-u8 in
     let back = back .before .before .before .before .before .before in
     let args = back .args in
     let pre = back .pre in
@@ -252,9 +252,9 @@ returns-3 c =
     let starts = back .pre .1 .0 in
     c .page-end .ensures .of _
     ∙ here-end walking
-    ((paging-on (loop .inv .paging) (starts .frame) (wide-size2 .ensures) (gather .ensures)
+    ((paging-on (loop .inv .paging) (starts .frame) (usize-of-u82 .ensures) (gather .ensures)
     (omega (arith, gather .ensures .few, gather .ensures .high, gather-ats-kept, loop .inv .held, pre .1 .1 .2)) (if1 .left) (put-all .ensures)
-    (omega (arith, if2 .left, wide-size .ensures))) .here)
+    (omega (arith, if2 .left, usize-of-u8 .ensures))) .here)
     (omega arith)
     (if3 .taken)
     ∙ onward-same _ _ _ _ _ _ _ _ (args .from .places) _ (place-numbers .ensures)
@@ -300,19 +300,19 @@ loop-again c =
     let gather = back .gather in
     let gather-ats-kept = back .gather .kept .1 .1 .1 .1 .1 .1 .1 .1 .1 .1 .1 .0 in
     let back = back .before .before .before in
-    let wide-size2 = back .wide-size2 in
+    let usize-of-u82 = back .usize-of-u82 in
     let loop = back .before .loop in
     let back = back .before .before .before .before in
-    let wide-size = back .wide-size in
+    let usize-of-u8 = back .usize-of-u8 in
     let back = back .before .before .before .before .before .before in
     let pre = back .pre in
     let walking = back .pre .0 in
     let starts = back .pre .1 .0 in
     record {
       paging = paging-enter
-          (paging-on (loop .inv .paging) (starts .frame) (wide-size2 .ensures) (gather .ensures)
+          (paging-on (loop .inv .paging) (starts .frame) (usize-of-u82 .ensures) (gather .ensures)
           (omega (arith, gather .ensures .few, gather .ensures .high, gather-ats-kept, loop .inv .held, pre .1 .1 .2)) (if1 .left) (put-all .ensures)
-          (omega (arith, if2 .left, wide-size .ensures)))
+          (omega (arith, if2 .left, usize-of-u8 .ensures)))
           walking
           (omega arith)
           (if3 .left)
@@ -330,10 +330,10 @@ page-segments-spec =
     (tie.spec
     Inv-loop
     μ-loop
-    wide-size-requires
+    usize-of-u8-requires
     place-numbers-requires
     loop-holds
-    wide-size-requires-2
+    usize-of-u8-requires-2
     slice-aggregate-gather
     slice-aggregate-gather-2
     gather-requires

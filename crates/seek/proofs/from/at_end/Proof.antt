@@ -1,4 +1,4 @@
--- `seek::from::at_end` meets its contract. Assumes nothing.
+-- `seek::from::at_end` meets its contract.
 use Rattle.walk.specs.Code.{soughtOf, soughtAs}
 use mathlib.Core.Path.{refl}
 use Rattle.seek.proofs.from.at_end.Statement.{statement}

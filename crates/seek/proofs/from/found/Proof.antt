@@ -1,4 +1,4 @@
--- `seek::from::found` meets its contract: an unmarked selector is its run. Assumes nothing.
+-- `seek::from::found` meets its contract: an unmarked selector is its run.
 use Rattle.walk.specs.Code.Seek.{sightAt}
 use Rattle.walk.specs.Code.{soughtOf, soughtAs, spotOf}
 use mathlib.Core.Path.{ap}
@@ -7,8 +7,8 @@ use borrow.Author.Needs.{needs}
 use Rattle.seek.proofs.from.found.Statement.{statement}
 use Rattle.seek.proofs.from.found.Tie as tie
 
-wide-size-requires : tie.Need-wide-size-requires
-wide-size-requires c κs = search needs
+usize-of-u8-requires : tie.Need-usize-of-u8-requires
+usize-of-u8-requires c κs = search needs
 
 mul-t8 : tie.Need-mul-t8
 mul-t8 c = omega arith
@@ -19,9 +19,9 @@ array-copy-out-t11 c = omega arith
 returns : tie.Need-returns
 unfolding soughtOf soughtAs spotOf sightAt
 returns c =
-    let wide-size = c .before .wide-size in
+    let usize-of-u8 = c .before .usize-of-u8 in
     let args = c .before .before .args in
-    ap (sightAt (args .g) (args .s) (args .t3) (args .v)) (wide-size .ensures)
+    ap (sightAt (args .g) (args .s) (args .t3) (args .v)) (usize-of-u8 .ensures)
 
 pub found-spec : {M : Type 1} → statement M
-found-spec = tie.close (tie.spec wide-size-requires mul-t8 array-copy-out-t11 returns)
+found-spec = tie.close (tie.spec usize-of-u8-requires mul-t8 array-copy-out-t11 returns)

@@ -1,4 +1,4 @@
--- `seek::from::lost_at` meets its contract. Assumes nothing.
+-- `seek::from::lost_at` meets its contract.
 use Rattle.walk.specs.Code.Seek.{lostAt}
 use Rattle.walk.specs.Code.{soughtOf, soughtAs}
 use mathlib.Core.Path.{ap}
@@ -6,8 +6,8 @@ use borrow.Author.Needs.{needs}
 use Rattle.seek.proofs.from.lost_at.Statement.{statement}
 use Rattle.seek.proofs.from.lost_at.Tie as tie
 
-wide32-requires : tie.Need-wide32-requires
-wide32-requires c κs = search needs
+u32-of-u8-requires : tie.Need-u32-of-u8-requires
+u32-of-u8-requires c κs = search needs
 
 no-cursor-requires : tie.Need-no-cursor-requires
 no-cursor-requires c κs = search needs
@@ -15,8 +15,8 @@ no-cursor-requires c κs = search needs
 returns : tie.Need-returns
 unfolding soughtOf soughtAs
 returns c =
-    let wide32 = c .before .wide32 in
-    ap (lostAt _) (wide32 .ensures)
+    let u32-of-u8 = c .before .u32-of-u8 in
+    ap (lostAt _) (u32-of-u8 .ensures)
 
 pub lost-at-spec : {M : Type 1} → statement M
-lost-at-spec = tie.close (tie.spec wide32-requires no-cursor-requires returns)
+lost-at-spec = tie.close (tie.spec u32-of-u8-requires no-cursor-requires returns)

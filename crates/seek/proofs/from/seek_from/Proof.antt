@@ -1,5 +1,5 @@
 -- `seek::from::seek_from` meets its contract. Invariants: the walk from here answers for the walk from this segment on, and this for the
--- whole. Measures: the selectors left, the segments left. Each way out is a law of `Code`. Assumes nothing.
+-- whole. Measures: the selectors left, the segments left. Each way out is a law of `Code`.
 use mathlib.Core.Path.{refl, _∙_}
 use Prim.Native.Nat.{_-_}
 use lib.ListN.{length-set}
@@ -45,8 +45,8 @@ add-first c =
     let walking = c .before .before .before .before .before .before .before .before .pre .0 in
     omega (arith, within walking (if1 .left) (segment-at .ensures))
 
-wide-size-requires : tie.Need-wide-size-requires Inv-loop μ-loop Inv-walk μ-walk
-wide-size-requires c κs = search needs
+usize-of-u8-requires : tie.Need-usize-of-u8-requires Inv-loop μ-loop Inv-walk μ-walk
+usize-of-u8-requires c κs = search needs
 
 mul-first : tie.Need-mul-first Inv-loop μ-loop Inv-walk μ-walk
 mul-first c = omega arith
@@ -56,7 +56,7 @@ add-first-2 c =
     let segment-at = c .before .before .segment-at in
     let if1 = c .before .before .before .if1 in
     let walking = c .before .before .before .before .before .before .before .before .before .pre .0 in
-    omega (arith, within walking (if1 .left) (segment-at .ensures), c .wide-size .ensures)
+    omega (arith, within walking (if1 .left) (segment-at .ensures), c .usize-of-u8 .ensures)
 
 loop-holds : tie.Need-loop-holds Inv-loop μ-loop Inv-walk μ-walk
 loop-holds c =
@@ -66,27 +66,27 @@ loop-holds c =
     let walking = c .before .before .before .before .before .before .before .before .before .pre .0 in
     here-first walking (if1 .left) (segment-at .ensures) (load .ensures)
 
-wide-size-requires-2 : tie.Need-wide-size-requires-2 Inv-loop μ-loop Inv-walk μ-walk
-wide-size-requires-2 c κs = search needs
+usize-of-u8-requires-2 : tie.Need-usize-of-u8-requires-2 Inv-loop μ-loop Inv-walk μ-walk
+usize-of-u8-requires-2 c κs = search needs
 
 add-v : tie.Need-add-v Inv-loop μ-loop Inv-walk μ-walk
 add-v c =
     let back = c .before .before .before in
-    let wide-size = back .wide-size in
+    let usize-of-u8 = back .usize-of-u8 in
     let segment-at = back .before .before .segment-at in
     let if1 = back .before .before .before .if1 in
     let walking = back .before .before .before .before .before .before .before .before .before .pre .0 in
-    omega (arith, within walking (if1 .left) (segment-at .ensures), wide-size .ensures, c .wide-size2 .ensures)
+    omega (arith, within walking (if1 .left) (segment-at .ensures), usize-of-u8 .ensures, c .usize-of-u82 .ensures)
 
 shared-slice-read-v : tie.Need-shared-slice-read-v Inv-loop μ-loop Inv-walk μ-walk
 shared-slice-read-v c =
-    let wide-size2 = c .before .wide-size2 in
+    let usize-of-u82 = c .before .usize-of-u82 in
     let back = c .before .before .before .before in
-    let wide-size = back .wide-size in
+    let usize-of-u8 = back .usize-of-u8 in
     let segment-at = back .before .before .segment-at in
     let if1 = back .before .before .before .if1 in
     let walking = back .before .before .before .before .before .before .before .before .before .pre .0 in
-    omega (arith, within walking (if1 .left) (segment-at .ensures), wide-size .ensures, wide-size2 .ensures)
+    omega (arith, within walking (if1 .left) (segment-at .ensures), usize-of-u8 .ensures, usize-of-u82 .ensures)
 
 add-s : tie.Need-add-s Inv-loop μ-loop Inv-walk μ-walk
 add-s c = omega arith
@@ -97,10 +97,10 @@ loop-less c = omega arith
 loop-again : tie.Need-loop-again Inv-loop μ-loop Inv-walk μ-walk
 loop-again c =
     let back = c .before .before in
-    let wide-size2 = back .wide-size2 in
+    let usize-of-u82 = back .usize-of-u82 in
     let loop-test = back .before .loop-test in
     let loop = back .before .before .loop in
-    let wide-size = back .before .before .before .wide-size in
+    let usize-of-u8 = back .before .before .before .usize-of-u8 in
     let segment-at = back .before .before .before .before .before .segment-at in
     let walking = back .before .before .before .before .before .before .before .before .before .before .before .before .pre .0 in
     record {
@@ -108,12 +108,12 @@ loop-again c =
       on = selectors-pass
           (loop .inv .on)
           (loop-test .taken)
-          (selector-is walking _ _ (segment-at .ensures) (omega (arith, wide-size .ensures)) (wide-size2 .ensures))
+          (selector-is walking _ _ (segment-at .ensures) (omega (arith, usize-of-u8 .ensures)) (usize-of-u82 .ensures))
           (c .if2 .taken);
     }
 
-wide-size-requires-3 : tie.Need-wide-size-requires-3 Inv-loop μ-loop Inv-walk μ-walk
-wide-size-requires-3 c κs = search needs
+usize-of-u8-requires-3 : tie.Need-usize-of-u8-requires-3 Inv-loop μ-loop Inv-walk μ-walk
+usize-of-u8-requires-3 c κs = search needs
 
 mul-p : tie.Need-mul-p Inv-loop μ-loop Inv-walk μ-walk
 mul-p c = omega arith
@@ -123,23 +123,23 @@ array-copy-out-p c =
     let loop = c .before .before .before .before .before .before .loop in
     let walking =
     c .before .before .before .before .before .before .before .before .before .before .before .before .before .before .before .before .pre .0 in
-    omega (arith, loop .inv .room, walking .few, c .wide-size3 .ensures)
+    omega (arith, loop .inv .room, walking .few, c .usize-of-u83 .ensures)
 
 mul-if4 : tie.Need-mul-if4 Inv-loop μ-loop Inv-walk μ-walk
 mul-if4 c = omega arith
 
 shared-slice-read-if4 : tie.Need-shared-slice-read-if4 Inv-loop μ-loop Inv-walk μ-walk
 shared-slice-read-if4 c =
-    let wide-size3 = c .before .before .wide-size3 in
+    let usize-of-u83 = c .before .before .usize-of-u83 in
     let walking =
     c .before .before .before .before .before .before .before .before .before .before .before .before .before .before .before .before .before .before
     .pre .0 in
-    omega (arith, walking .room, walking .few, wide-size3 .ensures)
+    omega (arith, walking .room, walking .few, usize-of-u83 .ensures)
 
 stays-requires : tie.Need-stays-requires Inv-loop μ-loop Inv-walk μ-walk
 stays-requires c κs =
     let back = c .before .before .before in
-    let wide-size3 = back .wide-size3 in
+    let usize-of-u83 = back .usize-of-u83 in
     let if3 = back .before .if3 in
     let back = back .before .before .before .before .before .before in
     let loop = back .loop in
@@ -148,8 +148,8 @@ stays-requires c κs =
     let starts = back .pre .1 in (
       starts,
       (
-        stays-run walking _ (loop .places) (if3 .taken) (wide-size3 .ensures),
-        stays-place walking _ (loop .places) (if3 .taken) (wide-size3 .ensures) (c .if4 .taken),
+        stays-run walking _ (loop .places) (if3 .taken) (usize-of-u83 .ensures),
+        stays-place walking _ (loop .places) (if3 .taken) (usize-of-u83 .ensures) (c .if4 .taken),
       ),
     )
 
@@ -157,20 +157,20 @@ found-requires : tie.Need-found-requires Inv-loop μ-loop Inv-walk μ-walk
 found-requires c κs =
     let stays = c .before .stays in
     let back = c .before .before .before .before .before in
-    let wide-size3 = back .wide-size3 in
+    let usize-of-u83 = back .usize-of-u83 in
     let if3 = back .before .if3 in
     let back = back .before .before .before .before .before .before in
     let loop = back .loop in
     let walk = back .before .before .before .before .before .walk in
     let walking = back .before .before .before .before .before .before .before .before .before .before .pre .0 in
-    stay-low walking _ (loop .places) (if3 .taken) (wide-size3 .ensures) _ (walk .g) (loop .s) (stays .ensures) (c .if5 .taken)
+    stay-low walking _ (loop .places) (if3 .taken) (usize-of-u83 .ensures) _ (walk .g) (loop .s) (stays .ensures) (c .if5 .taken)
 
 add-t41 : tie.Need-add-t41 Inv-loop μ-loop Inv-walk μ-walk
 add-t41 c =
     let if4 = c .before .before .if4 in
     let shared-slice-known6 = c .before .before .before .shared-slice-known6 in
-    let wide-size3 = c .before .before .before .before .before .wide-size3 in
-    omega (arith, shared-slice-known6 .given (wide-size3 .result), if4 .taken)
+    let usize-of-u83 = c .before .before .before .before .before .usize-of-u83 in
+    omega (arith, shared-slice-known6 .given (usize-of-u83 .result), if4 .taken)
 
 mul-places : tie.Need-mul-places Inv-loop μ-loop Inv-walk μ-walk
 mul-places c = omega arith
@@ -178,11 +178,11 @@ mul-places c = omega arith
 array-set-from-places : tie.Need-array-set-from-places Inv-loop μ-loop Inv-walk μ-walk
 array-set-from-places c =
     let back = c .before .before .before .before .before in
-    let wide-size3 = back .wide-size3 in
+    let usize-of-u83 = back .usize-of-u83 in
     let loop = back .before .before .before .before .before .before .loop in
     let walking =
     back .before .before .before .before .before .before .before .before .before .before .before .before .before .before .before .before .pre .0 in
-    omega (arith, loop .inv .room, walking .few, wide-size3 .ensures)
+    omega (arith, loop .inv .room, walking .few, usize-of-u83 .ensures)
 
 add-s-2 : tie.Need-add-s-2 Inv-loop μ-loop Inv-walk μ-walk
 add-s-2 c = omega arith
@@ -197,15 +197,15 @@ loop-again-2 c =
     let back = back .before in
     let if4 = back .if4 in
     let back = back .before .before .before in
-    let wide-size3 = back .wide-size3 in
+    let usize-of-u83 = back .usize-of-u83 in
     let if3 = back .before .if3 in
     let back = back .before .before in
     let if2 = back .if2 in
     let back = back .before .before in
-    let wide-size2 = back .wide-size2 in
+    let usize-of-u82 = back .usize-of-u82 in
     let loop-test = back .before .loop-test in
     let loop = back .before .before .loop in
-    let wide-size = back .before .before .before .wide-size in
+    let usize-of-u8 = back .before .before .before .usize-of-u8 in
     let segment-at = back .before .before .before .before .before .segment-at in
     let walking = back .before .before .before .before .before .before .before .before .before .before .before .before .pre .0 in
     record {
@@ -213,11 +213,11 @@ loop-again-2 c =
       on = selectors-go
           (loop .inv .on)
           (loop-test .taken)
-          (selector-is walking _ _ (segment-at .ensures) (omega (arith, wide-size .ensures)) (wide-size2 .ensures))
+          (selector-is walking _ _ (segment-at .ensures) (omega (arith, usize-of-u8 .ensures)) (usize-of-u82 .ensures))
           (if2 .left)
-          (named-yes walking _ _ (if3 .taken) (wide-size3 .ensures) (if4 .taken))
-          (visit-go walking _ (loop .places) (if3 .taken) (wide-size3 .ensures) _ _ _ (stays .ensures) (c .if5 .left))
-          (raise-numbers (loop .places) (wide-size3 .ensures));
+          (named-yes walking _ _ (if3 .taken) (usize-of-u83 .ensures) (if4 .taken))
+          (visit-go walking _ (loop .places) (if3 .taken) (usize-of-u83 .ensures) _ _ _ (stays .ensures) (c .if5 .left))
+          (raise-numbers (loop .places) (usize-of-u83 .ensures));
     }
 
 lost-at-requires : tie.Need-lost-at-requires Inv-loop μ-loop Inv-walk μ-walk
@@ -253,28 +253,28 @@ returns-2 c =
     let back = back .before in
     let if4 = back .if4 in
     let back = back .before .before .before in
-    let wide-size3 = back .wide-size3 in
+    let usize-of-u83 = back .usize-of-u83 in
     let back = back .before in
     let if3 = back .if3 in
     let if2 = back .before .if2 in
     let back = back .before .before .before in
-    let wide-size2 = back .wide-size2 in
+    let usize-of-u82 = back .usize-of-u82 in
     let loop-test = back .before .loop-test in
     let back = back .before .before in
     let loop = back .loop in
-    let wide-size = back .before .wide-size in
+    let usize-of-u8 = back .before .usize-of-u8 in
     let segment-at = back .before .before .before .segment-at in
     let walk = back .before .before .before .before .before .walk in
     let walking = back .before .before .before .before .before .before .before .before .before .before .pre .0 in
     c .found .ensures
-    ∙ sight-is walking _ (loop .places) (if3 .taken) (wide-size3 .ensures) _ _ _ (stays .ensures) (if5 .taken)
+    ∙ sight-is walking _ (loop .places) (if3 .taken) (usize-of-u83 .ensures) _ _ _ (stays .ensures) (if5 .taken)
     ∙ selectors-stay
     (loop .inv .on)
     (loop-test .taken)
-    (selector-is walking _ _ (segment-at .ensures) (omega (arith, wide-size .ensures)) (wide-size2 .ensures))
+    (selector-is walking _ _ (segment-at .ensures) (omega (arith, usize-of-u8 .ensures)) (usize-of-u82 .ensures))
     (if2 .left)
-    (named-yes walking _ _ (if3 .taken) (wide-size3 .ensures) (if4 .taken))
-    (visit-stay walking _ (loop .places) (if3 .taken) (wide-size3 .ensures) _ _ _ (stays .ensures) (if5 .taken))
+    (named-yes walking _ _ (if3 .taken) (usize-of-u83 .ensures) (if4 .taken))
+    (visit-stay walking _ (loop .places) (if3 .taken) (usize-of-u83 .ensures) _ _ _ (stays .ensures) (if5 .taken))
     ∙ walk .inv .same
 
 returns-3 : tie.Need-returns-3 Inv-loop μ-loop Inv-walk μ-walk
@@ -282,16 +282,16 @@ returns-3 c =
     let back = c .before in
     let if4 = back .if4 in
     let back = back .before .before .before in
-    let wide-size3 = back .wide-size3 in
+    let usize-of-u83 = back .usize-of-u83 in
     let back = back .before in
     let if3 = back .if3 in
     let if2 = back .before .if2 in
     let back = back .before .before .before in
-    let wide-size2 = back .wide-size2 in
+    let usize-of-u82 = back .usize-of-u82 in
     let loop-test = back .before .loop-test in
     let back = back .before .before in
     let loop = back .loop in
-    let wide-size = back .before .wide-size in
+    let usize-of-u8 = back .before .usize-of-u8 in
     let segment-at = back .before .before .before .segment-at in
     let walk = back .before .before .before .before .before .walk in
     let walking = back .before .before .before .before .before .before .before .before .before .before .pre .0 in
@@ -299,9 +299,9 @@ returns-3 c =
     ∙ selectors-lost
     (loop .inv .on)
     (loop-test .taken)
-    (selector-is walking _ _ (segment-at .ensures) (omega (arith, wide-size .ensures)) (wide-size2 .ensures))
+    (selector-is walking _ _ (segment-at .ensures) (omega (arith, usize-of-u8 .ensures)) (usize-of-u82 .ensures))
     (if2 .left)
-    (named-past walking _ _ (if3 .taken) (wide-size3 .ensures) (if4 .left))
+    (named-past walking _ _ (if3 .taken) (usize-of-u83 .ensures) (if4 .left))
     ∙ walk .inv .same
 
 returns-4 : tie.Need-returns-4 Inv-loop μ-loop Inv-walk μ-walk
@@ -310,11 +310,11 @@ returns-4 c =
     let if3 = back .if3 in
     let if2 = back .before .if2 in
     let back = back .before .before .before in
-    let wide-size2 = back .wide-size2 in
+    let usize-of-u82 = back .usize-of-u82 in
     let loop-test = back .before .loop-test in
     let back = back .before .before in
     let loop = back .loop in
-    let wide-size = back .before .wide-size in
+    let usize-of-u8 = back .before .usize-of-u8 in
     let segment-at = back .before .before .before .segment-at in
     let walk = back .before .before .before .before .before .walk in
     let walking = back .before .before .before .before .before .before .before .before .before .before .pre .0 in
@@ -322,7 +322,7 @@ returns-4 c =
     ∙ selectors-lost
     (loop .inv .on)
     (loop-test .taken)
-    (selector-is walking _ _ (segment-at .ensures) (omega (arith, wide-size .ensures)) (wide-size2 .ensures))
+    (selector-is walking _ _ (segment-at .ensures) (omega (arith, usize-of-u8 .ensures)) (usize-of-u82 .ensures))
     (if2 .left)
     (named-run walking _ (loop .places) (if3 .left))
     ∙ walk .inv .same
@@ -340,17 +340,17 @@ seek-from-spec =
     segment-at-requires
     load-requires
     add-first
-    wide-size-requires
+    usize-of-u8-requires
     mul-first
     add-first-2
     loop-holds
-    wide-size-requires-2
+    usize-of-u8-requires-2
     add-v
     shared-slice-read-v
     add-s
     loop-less
     loop-again
-    wide-size-requires-3
+    usize-of-u8-requires-3
     mul-p
     array-copy-out-p
     mul-if4

@@ -1,4 +1,4 @@
--- `seek::from::stays` meets its contract: only an unmarked selector has its key read. Assumes nothing.
+-- `seek::from::stays` meets its contract: only an unmarked selector has its key read.
 use Rattle.walk.specs.Code.Seek.{stays-below, stays-marked}
 use Rattle.seek.proofs.from.stays.Statement.{statement}
 use Rattle.seek.proofs.from.stays.Tie as tie

@@ -1,6 +1,6 @@
--- `seek::get::found_nothing` meets its contract. Assumes nothing.
+-- `seek::get::found_nothing` meets its contract.
 use mathlib.Core.Path.{ap, sym, _∙_}
-use Rattle.walk.specs.Code.Get.{nothingAt}
+use Rattle.answers.specs.Get.Code.{nothingAt}
 use borrow.Author.Needs.{needs}
 use Rattle.seek.proofs.get.found_nothing.Statement.{statement}
 use Rattle.seek.proofs.get.found_nothing.Tie as tie

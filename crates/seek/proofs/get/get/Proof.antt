@@ -1,9 +1,9 @@
--- `seek::get::get` meets its contract. Assumes nothing.
+-- `seek::get::get` meets its contract.
 use mathlib.Core.Path.{sym, ap, _∙_}
 use Rattle.tray.specs.Frame.Code.{opened}
 use Rattle.index.specs.Layout.Code.{laid}
-use Rattle.walk.specs.Answers.{refusedGet, getAnswer, getFramed}
-use Rattle.walk.specs.Answers.Code.{frames-tray, frames-index, frames-fit}
+use Rattle.answers.specs.Get.{refusedGet, getAnswer, getFramed}
+use Rattle.answers.specs.Code.{frames-tray, frames-index, frames-fit}
 use borrow.Author.Needs.{needs}
 use Rattle.seek.proofs.get.get.Statement.{statement}
 use Rattle.seek.proofs.get.get.Tie as tie

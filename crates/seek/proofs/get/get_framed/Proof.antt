@@ -1,12 +1,12 @@
--- `seek::get::get_framed` meets its contract. Assumes nothing.
+-- `seek::get::get_framed` meets its contract.
 use Rattle.walk.specs.declared.cursor.Sight.{Sight}
 use Rattle.walk.proofs.cursor.Sight.{the-type}
 use types.Run.{OneOf}
 use denote.Enum.Declared.{tagOf}
 use mathlib.Core.List.{[], _∷_}
-use Rattle.walk.specs.Code.Get.{found-there, got-value, got-nothing, not-found}
+use Rattle.answers.specs.Get.Code.{found-there, got-value, got-nothing, not-found}
 use mathlib.Core.Path.{sym, subst}
-use Rattle.walk.specs.Answers.Code.{walking}
+use Rattle.answers.specs.Code.{walking}
 use borrow.Author.Needs.{needs}
 use Rattle.seek.proofs.get.get_framed.Statement.{statement}
 use Rattle.seek.proofs.get.get_framed.Tie as tie

@@ -1,5 +1,5 @@
--- `seek::get::value_if` meets its contract. Assumes nothing.
-use Rattle.walk.specs.Code.Get.{value-there, value-other}
+-- `seek::get::value_if` meets its contract.
+use Rattle.answers.specs.Get.Code.{value-there, value-other}
 use mathlib.Core.Path.{ap, _∙_}
 use mathlib.Core.List.{List}
 use Prim.Native.Nat.{ℕ}
@@ -11,8 +11,8 @@ use borrow.Author.Needs.{needs}
 use Rattle.seek.proofs.get.value_if.Statement.{statement}
 use Rattle.seek.proofs.get.value_if.Tie as tie
 
-wide-size-requires : tie.Need-wide-size-requires
-wide-size-requires c κs = search needs
+usize-of-u8-requires : tie.Need-usize-of-u8-requires
+usize-of-u8-requires c κs = search needs
 
 mul-a : tie.Need-mul-a
 mul-a c = search needs
@@ -31,63 +31,63 @@ shared-slice-read-e c = search needs
 
 sub-key-at : tie.Need-sub-key-at
 sub-key-at c =
-    let wide-size = c .before .before .wide-size in
+    let usize-of-u8 = c .before .before .usize-of-u8 in
     let pre = c .before .before .before .before .before .pre in
     let starts = c .before .before .before .before .before .pre .0 in
-    cut _ starts (pre .1 .0) (wide-size .ensures) .start
+    cut _ starts (pre .1 .0) (usize-of-u8 .ensures) .start
 
 part-key-at-start : tie.Need-part-key-at-start
 part-key-at-start c =
-    let wide-size = c .before .before .wide-size in
+    let usize-of-u8 = c .before .before .usize-of-u8 in
     let pre = c .before .before .before .before .before .pre in
     let starts = c .before .before .before .before .before .pre .0 in
-    cut _ starts (pre .1 .0) (wide-size .ensures) .start
+    cut _ starts (pre .1 .0) (usize-of-u8 .ensures) .start
 
 part-key-at-end : tie.Need-part-key-at-end
 part-key-at-end c =
-    let wide-size = c .before .before .wide-size in
+    let usize-of-u8 = c .before .before .usize-of-u8 in
     let pre = c .before .before .before .before .before .pre in
     let starts = c .before .before .before .before .before .pre .0 in
-    cut _ starts (pre .1 .0) (wide-size .ensures) .end
+    cut _ starts (pre .1 .0) (usize-of-u8 .ensures) .end
 
 key-at-requires : tie.Need-key-at-requires
 key-at-requires c κs =
-    let wide-size = c .before .before .before .wide-size in
+    let usize-of-u8 = c .before .before .before .usize-of-u8 in
     let pre = c .before .before .before .before .before .before .pre in
     let starts = c .before .before .before .before .before .before .pre .0 in
-    let k = cut _ starts (pre .1 .0) (wide-size .ensures) in omega (arith, k .whole)
+    let k = cut _ starts (pre .1 .0) (usize-of-u8 .ensures) in omega (arith, k .whole)
 
 sub-value-at : tie.Need-sub-value-at
 sub-value-at c =
     let back = c .before .before .before .before .before in
-    let wide-size = back .wide-size in
+    let usize-of-u8 = back .usize-of-u8 in
     let pre = back .before .before .before .pre in
     let starts = back .before .before .before .pre .0 in
-    cut _ starts (pre .1 .0) (wide-size .ensures) .start
+    cut _ starts (pre .1 .0) (usize-of-u8 .ensures) .start
 
 part-value-at-start : tie.Need-part-value-at-start
 part-value-at-start c =
     let back = c .before .before .before .before .before in
-    let wide-size = back .wide-size in
+    let usize-of-u8 = back .usize-of-u8 in
     let pre = back .before .before .before .pre in
     let starts = back .before .before .before .pre .0 in
-    cut _ starts (pre .1 .0) (wide-size .ensures) .start
+    cut _ starts (pre .1 .0) (usize-of-u8 .ensures) .start
 
 part-value-at-end : tie.Need-part-value-at-end
 part-value-at-end c =
     let back = c .before .before .before .before .before in
-    let wide-size = back .wide-size in
+    let usize-of-u8 = back .usize-of-u8 in
     let pre = back .before .before .before .pre in
     let starts = back .before .before .before .pre .0 in
-    cut _ starts (pre .1 .0) (wide-size .ensures) .end
+    cut _ starts (pre .1 .0) (usize-of-u8 .ensures) .end
 
 value-at-requires : tie.Need-value-at-requires
 value-at-requires c κs =
     let back = c .before .before .before .before .before .before in
-    let wide-size = back .wide-size in
+    let usize-of-u8 = back .usize-of-u8 in
     let pre = back .before .before .before .pre in
     let starts = back .before .before .before .pre .0 in
-    let k = cut _ starts (pre .1 .0) (wide-size .ensures) in omega (arith, k .whole)
+    let k = cut _ starts (pre .1 .0) (usize-of-u8 .ensures) in omega (arith, k .whole)
 
 returns : tie.Need-returns
 returns c =
@@ -95,11 +95,11 @@ returns c =
     let if1 = back .if1 in
     let key-at = back .before .key-at in
     let back = back .before .before .before .before .before in
-    let wide-size = back .wide-size in
+    let usize-of-u8 = back .usize-of-u8 in
     let args = back .before .before .before .args in
     let pre = back .before .before .before .pre in
     let starts = back .before .before .before .pre .0 in
-    let k = cut _ starts (pre .1 .0) (wide-size .ensures) in
+    let k = cut _ starts (pre .1 .0) (usize-of-u8 .ensures) in
     value-there _ _ _ _
     (key-at .ensures ∙ ap (λ (s : List ℕ). recordAt s (args .place .0) .key) (k .bytes))
     (if1 .taken)
@@ -114,18 +114,18 @@ returns-2 c =
     let back = c .before .before in
     let key-at = back .key-at in
     let back = back .before .before .before .before in
-    let wide-size = back .wide-size in
+    let usize-of-u8 = back .usize-of-u8 in
     let args = back .before .before .before .args in
     let pre = back .before .before .before .pre in
     let starts = back .before .before .before .pre .0 in
-    let k = cut _ starts (pre .1 .0) (wide-size .ensures) in
+    let k = cut _ starts (pre .1 .0) (usize-of-u8 .ensures) in
     c .no-value .ensures ∙ value-other _ _ _ _ (key-at .ensures ∙ ap (λ (s : List ℕ). recordAt s (args .place .0) .key) (k .bytes)) (if1 .left)
 
 pub value-if-spec : {M : Type 1} → statement M
 value-if-spec =
     tie.close
     (tie.spec
-    wide-size-requires
+    usize-of-u8-requires
     mul-a
     shared-slice-read-a
     add-e

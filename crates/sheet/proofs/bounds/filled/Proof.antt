@@ -1,4 +1,4 @@
--- `sheet::bounds::filled` meets its contract. Invariant: the first i bytes are copied. Measure: what is left of the prefix. Assumes nothing.
+-- `sheet::bounds::filled` meets its contract. Invariant: the first i bytes are copied. Measure: what is left of the prefix.
 use Prim.Native.Nat.{_-_}
 use lib.ListN.{length}
 use Rattle.sheet.specs.Bounds.{Filling, filling-none, filling-more, filling-end}

@@ -1,4 +1,4 @@
--- `sheet::bounds::high_key` meets its contract. Assumes nothing.
+-- `sheet::bounds::high_key` meets its contract.
 use lib.ListN.{length, getD, length-set}
 use Prim.Native.Nat.{_+_, _-_}
 use Rattle.sheet.specs.Bounds.{high-set, filled-long}

@@ -1,4 +1,4 @@
--- `sheet::bounds::low_key` meets its contract. Assumes nothing.
+-- `sheet::bounds::low_key` meets its contract.
 use Rattle.walk.specs.Reads.{lowKey}
 use Rattle.number.specs.Big.{be}
 use Prim.Native.Nat.{ℕ}

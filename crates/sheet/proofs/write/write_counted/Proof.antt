@@ -1,4 +1,4 @@
--- `sheet::write::write_counted` meets its contract. Assumes nothing.
+-- `sheet::write::write_counted` meets its contract.
 use Rattle.sheet.specs.Write.{leaves-written, leaves-short, leaves-held}
 use lib.Seq.{length-take-le}
 use mathlib.Core.Path.{refl, sym}

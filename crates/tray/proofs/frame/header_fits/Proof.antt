@@ -1,4 +1,4 @@
--- `tray::frame::header_fits` meets its contract: each way out is a test of the header, in its order. Assumes nothing.
+-- `tray::frame::header_fits` meets its contract: each way out is a test of the header, in its order.
 use Rattle.tray.specs.Frame.Code.{header-short, header-none, header-many, header-1, header-2, header-3}
 use native.Mathlib.Omega.{arith}
 use borrow.Author.Needs.{needs}
@@ -11,8 +11,8 @@ returns c = header-short _ (omega arith)
 shared-slice-read-h : tie.Need-shared-slice-read-h
 shared-slice-read-h c = search needs
 
-wide-size-requires : tie.Need-wide-size-requires
-wide-size-requires c κs = search needs
+usize-of-u8-requires : tie.Need-usize-of-u8-requires
+usize-of-u8-requires c κs = search needs
 
 mul-if2 : tie.Need-mul-if2
 mul-if2 c =
@@ -71,7 +71,7 @@ header-fits-spec =
     (tie.spec
     returns
     shared-slice-read-h
-    wide-size-requires
+    usize-of-u8-requires
     mul-if2
     add-if2
     returns-2

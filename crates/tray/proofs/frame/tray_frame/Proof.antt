@@ -1,4 +1,4 @@
--- `tray::frame::tray_frame` meets its contract: the header decides whether the counts are read. Assumes nothing.
+-- `tray::frame::tray_frame` meets its contract: the header decides whether the counts are read.
 use Rattle.tray.specs.Frame.Code.{header-is, header-wrong}
 use mathlib.Core.Path.{sym, _∙_}
 use borrow.Author.Needs.{needs}
@@ -8,8 +8,8 @@ use Rattle.tray.proofs.frame.tray_frame.Tie as tie
 header-fits-requires : tie.Need-header-fits-requires
 header-fits-requires c κs = search needs
 
-counted-requires : tie.Need-counted-requires
-counted-requires c κs =
+read-counts-requires : tie.Need-read-counts-requires
+read-counts-requires c κs =
     let header-fits = c .before .header-fits in
     header-is _ (sym (header-fits .ensures) ∙ c .if1 .taken)
 
@@ -27,4 +27,4 @@ returns-2 c =
 
 pub tray-frame-spec : {M : Type 1} → statement M
 tray-frame-spec =
-    tie.close (tie.spec header-fits-requires counted-requires returns no-frame-requires returns-2)
+    tie.close (tie.spec header-fits-requires read-counts-requires returns no-frame-requires returns-2)

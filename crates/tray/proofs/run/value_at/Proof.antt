@@ -1,4 +1,4 @@
--- `tray::run::value_at` meets its contract: a value is written by its halves. Assumes nothing.
+-- `tray::run::value_at` meets its contract: a value is written by its halves.
 use mathlib.Core.Path.{refl}
 use Rattle.tray.specs.Run.Code.{value-is}
 use native.Mathlib.Omega.{arith}
@@ -6,8 +6,8 @@ use borrow.Author.Needs.{needs}
 use Rattle.tray.proofs.run.value_at.Statement.{statement}
 use Rattle.tray.proofs.run.value_at.Tie as tie
 
-size16-requires : tie.Need-size16-requires
-size16-requires c κs = search needs
+usize-of-u16-requires : tie.Need-usize-of-u16-requires
+usize-of-u16-requires c κs = search needs
 
 mul-at : tie.Need-mul-at
 mul-at c = search needs
@@ -43,14 +43,14 @@ returns c =
     let back = c .before .before .before .before .before in
     let put8 = back .put8 in
     let big8 = back .before .big8 in
-    let size16 = back .before .before .before .size16 in
-    value-is _ _ _ refl (omega (arith, size16 .ensures)) (big8 .ensures) (big82 .ensures) (omega arith) (put8 .ensures) (put82 .ensures)
+    let usize-of-u16 = back .before .before .before .usize-of-u16 in
+    value-is _ _ _ refl (omega (arith, usize-of-u16 .ensures)) (big8 .ensures) (big82 .ensures) (omega arith) (put8 .ensures) (put82 .ensures)
 
 pub value-at-spec : {M : Type 1} → statement M
 value-at-spec =
     tie.close
     (tie.spec
-    size16-requires
+    usize-of-u16-requires
     mul-at
     add-at
     slice-aggregate-put8

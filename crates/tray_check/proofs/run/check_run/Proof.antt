@@ -1,5 +1,5 @@
 -- `tray_check::run::check_run` meets its contract. Invariant: the records before place p are right, and what is left to judge answers for the whole
--- run. Measure: the records left. Each way out, and each turn, is a law of `Run/Code`. Assumes nothing.
+-- run. Measure: the records left. Each way out, and each turn, is a law of `Run/Code`.
 use Rattle.tray.specs.Run.Code.{last-next, run-kind, run-key, run-next, run-live, Last, last-none}
 use Rattle.tray.specs.Run.Laws.{judge-end}
 use Rattle.tray.specs.Run.{judgeFrom}

@@ -1,4 +1,4 @@
--- `tray_check::run::key_right` meets its contract: the test that was taken decides the first half of the answer. Assumes nothing.
+-- `tray_check::run::key_right` meets its contract: the test that was taken decides the first half of the answer.
 use borrow.Author.Tests.{lt-ltb, le-ltb}
 use Rattle.tray_check.proofs.run.key_right.Statement.{statement}
 use Rattle.tray_check.proofs.run.key_right.Tie as tie

@@ -1,4 +1,4 @@
--- `tray_check::run::kind_right` meets its contract: each way out is a case of the kind byte. Assumes nothing.
+-- `tray_check::run::kind_right` meets its contract: each way out is a case of the kind byte.
 use Rattle.tray.specs.Run.Code.{kind-live, kind-gone, kind-other}
 use borrow.Author.Needs.{needs}
 use Rattle.tray_check.proofs.run.kind_right.Statement.{statement}
@@ -13,16 +13,16 @@ shared-slice-read-kind c = search needs
 returns : tie.Need-returns
 returns c = kind-live _ _ (c .if1 .taken)
 
-add-no-value : tie.Need-add-no-value
-add-no-value c = search needs
+add-value-is-zero : tie.Need-add-value-is-zero
+add-value-is-zero c = search needs
 
-no-value-requires : tie.Need-no-value-requires
-no-value-requires c κs = search needs
+value-is-zero-requires : tie.Need-value-is-zero-requires
+value-is-zero-requires c κs = search needs
 
 returns-2 : tie.Need-returns-2
 returns-2 c =
     let if2 = c .before .if2 in
-    kind-gone _ _ (if2 .taken) (c .no-value .ensures)
+    kind-gone _ _ (if2 .taken) (c .value-is-zero .ensures)
 
 returns-3 : tie.Need-returns-3
 returns-3 c =
@@ -36,7 +36,7 @@ kind-right-spec =
     add-kind
     shared-slice-read-kind
     returns
-    add-no-value
-    no-value-requires
+    add-value-is-zero
+    value-is-zero-requires
     returns-2
     returns-3)

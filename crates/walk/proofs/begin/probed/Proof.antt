@@ -1,5 +1,5 @@
 -- `walk::begin::probed` meets its contract. Invariant: the segments left to probe, with as many probes as are enough, answer for all.
--- Measure: the segments left. Assumes nothing.
+-- Measure: the segments left.
 use Prim.Native.Nat.{_-_}
 use Rattle.walk.specs.Start.Code.{Probing, Probes, probes-start, probes-above, probes-below, probes-end, anchor-inside}
 use native.Mathlib.Omega.{arith}

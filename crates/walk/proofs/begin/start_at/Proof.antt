@@ -1,4 +1,4 @@
--- `walk::begin::start_at` meets its contract: one less than the segments passed, or 0. Assumes nothing.
+-- `walk::begin::start_at` meets its contract: one less than the segments passed, or 0.
 use Rattle.walk.specs.Start.Code.{start-zero, start-some}
 use borrow.Author.Needs.{needs}
 use Rattle.walk.proofs.begin.start_at.Statement.{statement}

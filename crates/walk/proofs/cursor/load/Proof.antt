@@ -1,5 +1,4 @@
 -- `walk::cursor::load` meets its contract. Invariant: the runs from r on are loaded, and those that the tray has not are 0. Measure: r.
--- Assumes nothing.
 use mathlib.Core.Path.{refl}
 use Rattle.walk.specs.Code.Load.{Loading, loading-none, loading-more, loading-end}
 use native.Mathlib.Omega.{arith}
@@ -13,13 +12,13 @@ Inv-loop x at h places₀ r₀ places r = Loading h x at places r
 abbrev μ-loop : tie.MeasureT-loop
 μ-loop x at h places₀ r₀ places r = r
 
-wide-size-requires : tie.Need-wide-size-requires Inv-loop μ-loop
-wide-size-requires c κs = search needs
+usize-of-u8-requires : tie.Need-usize-of-u8-requires Inv-loop μ-loop
+usize-of-u8-requires c κs = search needs
 
 loop-holds : tie.Need-loop-holds Inv-loop μ-loop
 loop-holds c =
     let pre = c .before .before .pre in
-    loading-none (c .wide-size .ensures) (pre .1)
+    loading-none (c .usize-of-u8 .ensures) (pre .1)
 
 sub-r : tie.Need-sub-r Inv-loop μ-loop
 sub-r c = omega arith
@@ -74,7 +73,7 @@ load-spec =
     (tie.spec
     Inv-loop
     μ-loop
-    wide-size-requires
+    usize-of-u8-requires
     loop-holds
     sub-r
     add-big2

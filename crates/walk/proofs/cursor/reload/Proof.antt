@@ -1,5 +1,4 @@
 -- `walk::cursor::reload` meets its contract. Invariants: the first numbers are cleared; then as for `load`. Measures: the numbers left; r.
--- Assumes nothing.
 use mathlib.Core.Path.{refl, sym, _∙_}
 use Prim.Native.Nat.{_-_}
 use Rattle.walk.specs.Code.{placesOf, places-room}
@@ -45,15 +44,15 @@ loop-again c =
     let pre = c .before .before .before .before .pre in
     clearing-more (loop .inv) (omega (arith, c .loop-test .taken, pre .2))
 
-wide-size-requires : tie.Need-wide-size-requires Inv-loop μ-loop Inv-loop2 μ-loop2
-wide-size-requires c κs = search needs
+usize-of-u8-requires : tie.Need-usize-of-u8-requires Inv-loop μ-loop Inv-loop2 μ-loop2
+usize-of-u8-requires c κs = search needs
 
 loop2-holds : tie.Need-loop2-holds Inv-loop μ-loop Inv-loop2 μ-loop2
 loop2-holds c =
     let loop-test = c .before .loop-test in
     let loop = c .before .before .loop in
     let pre = c .before .before .before .before .before .pre in
-    clearing-all (loop .inv) (loop-test .left) (pre .2) (c .wide-size .ensures) (pre .1)
+    clearing-all (loop .inv) (loop-test .left) (pre .2) (c .usize-of-u8 .ensures) (pre .1)
 
 sub-r : tie.Need-sub-r Inv-loop μ-loop Inv-loop2 μ-loop2
 sub-r c = omega arith
@@ -122,7 +121,7 @@ reload-spec =
     add-i
     loop-less
     loop-again
-    wide-size-requires
+    usize-of-u8-requires
     loop2-holds
     sub-r
     add-big2

@@ -1,4 +1,4 @@
--- `walk::cursor::Cursor::past_gap` meets its contract. Assumes nothing.
+-- `walk::cursor::Cursor::past_gap` meets its contract.
 use Rattle.walk.specs.Code.Moves.{moved-gap}
 use borrow.Author.Needs.{needs}
 use Rattle.walk.proofs.cursor.Cursor.past_gap.Statement.{statement}
