@@ -1,3 +1,3 @@
 // Reading through an index: cursors, and where a walk starts (docs/RULES.md, "Reading through an index").
-pub mod begin;
 pub mod cursor;
+pub mod start;

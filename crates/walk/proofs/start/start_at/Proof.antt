@@ -1,8 +1,8 @@
--- `walk::begin::start_at` meets its contract: one less than the segments passed, or 0.
+-- `walk::start::start_at` meets its contract: one less than the segments passed, or 0.
 use Rattle.walk.specs.Start.Code.{start-zero, start-some}
 use borrow.Author.Needs.{needs}
-use Rattle.walk.proofs.begin.start_at.Statement.{statement}
-use Rattle.walk.proofs.begin.start_at.Tie as tie
+use Rattle.walk.proofs.start.start_at.Statement.{statement}
+use Rattle.walk.proofs.start.start_at.Tie as tie
 
 probed-requires : tie.Need-probed-requires
 probed-requires c κs = search needs

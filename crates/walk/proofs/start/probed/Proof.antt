@@ -1,11 +1,11 @@
--- `walk::begin::probed` meets its contract. Invariant: the segments left to probe, with as many probes as are enough, answer for all.
+-- `walk::start::probed` meets its contract. Invariant: the segments left to probe, with as many probes as are enough, answer for all.
 -- Measure: the segments left.
 use Prim.Native.Nat.{_-_}
 use Rattle.walk.specs.Start.Code.{Probing, Probes, probes-start, probes-above, probes-below, probes-end, anchor-inside}
 use native.Mathlib.Omega.{arith}
 use borrow.Author.Needs.{needs}
-use Rattle.walk.proofs.begin.probed.Statement.{statement}
-use Rattle.walk.proofs.begin.probed.Tie as tie
+use Rattle.walk.proofs.start.probed.Statement.{statement}
+use Rattle.walk.proofs.start.probed.Tie as tie
 
 abbrev Inv-loop : tie.InvT-loop
 Inv-loop x h d n key first₀ past₀ first past = (f : Probing x h d n) × Probes x h d n key f first past
