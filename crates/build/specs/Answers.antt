@@ -39,7 +39,7 @@ use Rattle.build_spec.specs.Build.Bytes.{total-short}
 use Rattle.build_spec.specs.Build.Theorems.{built-most}
 use Rattle.build_marks.specs.Code.{Sounded}
 use Rattle.build_marks.specs.Code.Writes.{put-before}
-use Rattle.build.specs.Segment.Loops.{sounded-fits}
+use Rattle.build_segment.specs.Segment.Loops.{sounded-fits}
 
 -- the answer for a sound tray
 unfoldable pub roomAnswer : ℕ → List (List Record) → ℕ → BuildAnswer

@@ -1,5 +1,3 @@
 -- The call build, for every tray, segment size and room.
 -- what the code needs of its answer
 pub mod Answers
--- how what was taken fills a segment, and the segments
-pub mod Segment

@@ -1,5 +1,4 @@
 // The builder of indexes (docs/RULES.md, "The index"): each key's versions go into the current segment if all fit and else open a new one.
-pub mod segment;
 pub mod segments;
 
 use crate::segments::count_segments;

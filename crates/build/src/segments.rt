@@ -1,5 +1,5 @@
 // All segments: counted, and written each into its own stretch of the output.
-use crate::segment::write_segment;
+use build_segment::write_segment;
 use index::SegmentNo;
 use index::frame::segment_at;
 use number::usize_of_u8;

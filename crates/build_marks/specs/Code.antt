@@ -19,7 +19,7 @@ use Rattle.tray.specs.Frame.{runCount, recordsBefore, Opened}
 use Rattle.tray.specs.Check.{Sound}
 use Rattle.theory.specs.Listed.{listed}
 use Rattle.index.specs.Scan.{nextIn, raise}
-use Rattle.merge.specs.Heads.Leads.{NextRun, NoRun, LeastKey}
+use Rattle.merge_lead.specs.Heads.Leads.{NextRun, NoRun, LeastKey}
 
 -- the selector of a run's next record, with a mark
 unfoldable pub spelling : List ℕ → List ℕ → ℕ → ℕ → ℕ

@@ -4,9 +4,9 @@ use build_marks::cut_back;
 use build_marks::gone_mark;
 use build_marks::old_mark;
 use build_marks::other_key;
-use merge::heads::advance;
-use merge::lead::choose;
-use merge::lead::leader;
+use merge::advance;
+use merge_lead::choose;
+use merge_lead::leader;
 use number::usize_of_u8;
 use tray::Place;
 use tray::RunNo;
@@ -16,7 +16,7 @@ ghost use Prim.Native.Nat.{_-_, _≤_, _<_};
 ghost use lib.ListN.{length, getD};
 ghost use Rattle.tray.specs.Frame.{runCount, countOf};
 ghost use Rattle.index.specs.Scan.{raise};
-ghost use Rattle.merge.specs.Heads.Leads.{Heading};
+ghost use Rattle.merge_lead.specs.Heads.Leads.{Heading};
 ghost use Rattle.build_marks.specs.Code.{spelling, otherKey, Stopped, Fills};
 
 // The next record of a run taken: its selector, with a mark.

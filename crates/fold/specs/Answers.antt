@@ -34,7 +34,7 @@ use Rattle.fold_spec.specs.declared.FoldAnswer.the-variants.{Written, Refused}
 use Rattle.fold_spec.specs.Fold.{keyOf, foldedRun, foldedRuns, foldBytes, foldSize, boundsHold, afterCheck, foldAnswer, foldLeaves}
 use Rattle.fold_spec.specs.Fold.Laws.{keyRule, length-foldBytes, fold-copies}
 use Rattle.fold_merge.specs.Folding.{Folding, Noted, mergedRun}
-use Rattle.fold.specs.Write.{soundAnswer}
+use Rattle.fold_write.specs.Write.{soundAnswer}
 
 module _ (a b : ℕ) (t : List (List Record)) (room : ℕ) where
   pub answer-long : {n : ℕ} → n ≡ length (foldedRun a b t) → 4096 < n → Refused (RunLength n) ≡ soundAnswer a b t room

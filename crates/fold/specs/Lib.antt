@@ -1,5 +1,3 @@
 -- The call fold, for every tray, every pair of runs and every room.
 -- what the code needs of its answer
 pub mod Answers
--- a tray written anew with some of its runs made one
-pub mod Write

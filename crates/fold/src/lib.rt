@@ -1,9 +1,7 @@
 // Folding neighbouring runs into one (docs/RULES.md, "Folding").
-pub mod write;
-
-use crate::write::write_tray;
 use fold_merge::merge_runs;
 use fold_spec::FoldAnswer;
+use fold_write::write_tray;
 use number::copy;
 use number::usize_of_u8;
 use refusal::Refusal;
@@ -18,7 +16,7 @@ ghost use lib.ListN.{length};
 ghost use Rattle.tray.specs.Meaning.{runsOf};
 ghost use Rattle.fold_merge.specs.Folding.{Folding};
 ghost use Rattle.fold_spec.specs.Fold.{foldSize, foldedRun, foldAnswer, foldLeaves};
-ghost use Rattle.fold.specs.Write.{soundAnswer};
+ghost use Rattle.fold_write.specs.Write.{soundAnswer};
 
 // How many bytes the tray has with its runs a to b made one of n records.
 fn folded_size(t: &[u8], f: TrayFrame, a: RunNo, b: RunNo, n: usize) -> usize

@@ -4,10 +4,10 @@ pub mod keep;
 use crate::keep::fresh;
 use crate::keep::note;
 use crate::keep::skip_runs;
-use merge::heads::advance;
-use merge::heads::fill_heads;
-use merge::lead::choose;
-use merge::lead::leader;
+use merge::advance;
+use merge::fill_heads;
+use merge_lead::choose;
+use merge_lead::leader;
 use number::usize_of_u8;
 use number::usize_of_u16;
 use tray::RunNo;
@@ -19,7 +19,7 @@ ghost use Rattle.tray.specs.Frame.{runCount, countOf};
 ghost use Rattle.tray.specs.Check.{Sound};
 ghost use Rattle.tray.specs.Meaning.{runsOf};
 ghost use Rattle.index.specs.Scan.{raise};
-ghost use Rattle.merge.specs.Heads.Leads.{Heading};
+ghost use Rattle.merge_lead.specs.Heads.Leads.{Heading};
 ghost use Rattle.fold_merge.specs.Folding.{mergedRun, mergeLeft, nextAt, noted, Ended, Noted, Folding};
 
 // The next record of a run noted as number n and taken.

@@ -1,14 +1,11 @@
 // Check index: whether an index follows the rules for its tray (docs/RULES.md, "The index").
-pub mod segment;
-pub mod selector;
-
-use crate::segment::check_segment;
-use crate::segment::used_up;
 use index::IndexAnswer;
 use index::SegmentNo;
 use index::frame::IndexFrame;
 use index::frame::index_frame;
 use index::frame::segment_at;
+use index_scan::segment::check_segment;
+use index_scan::segment::used_up;
 use refusal::Refusal;
 use tray::TrayAnswer;
 use tray::frame::TrayFrame;

@@ -1,5 +1,3 @@
 -- The call page, for every tray, index, cursor and room.
 -- what its functions promise each other, and what they need of the answer
 pub mod Code
--- a page a segment at a time
-pub mod Segments

@@ -1,7 +1,4 @@
 // The call page: it tests the frames, the cursor and every place that it follows.
-pub mod from;
-
-use crate::from::page_from;
 use answers::PageAnswer;
 use answers::PagedAnswer;
 use index::SegmentNo;
@@ -9,6 +6,7 @@ use index::frame::IndexFrame;
 use index::frame::index_frame;
 use list::points::Halt;
 use list::points::Paged;
+use page_walk::page_from;
 use refusal::Refusal;
 use tray::Place;
 use tray::frame::TrayFrame;

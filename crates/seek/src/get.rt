@@ -1,5 +1,4 @@
 // Get: the value of a key, or absent.
-use crate::from::seek_from;
 use answers::GetAnswer;
 use answers::ValueAnswer;
 use index::frame::IndexFrame;
@@ -7,6 +6,7 @@ use index::frame::index_frame;
 use number::big8;
 use number::usize_of_u8;
 use refusal::Refusal;
+use seek_walk::seek_from;
 use tray::Place;
 use tray::RunNo;
 use tray::frame::TrayFrame;

@@ -1,8 +1,6 @@
 // The call seek: it tests the frames and every place that it follows, not the whole index.
-pub mod from;
 pub mod get;
 
-use crate::from::seek_from;
 use answers::CursorAnswer;
 use answers::SeekAnswer;
 use index::SegmentNo;
@@ -10,6 +8,7 @@ use index::frame::IndexFrame;
 use index::frame::index_frame;
 use number::big8;
 use refusal::Refusal;
+use seek_walk::seek_from;
 use tray::Place;
 use tray::frame::TrayFrame;
 use tray::frame::tray_frame;

@@ -12,7 +12,7 @@ use index::frame::IndexFrame;
 use index::frame::index_frame;
 use list::points::Halt;
 use refusal::Refusal;
-use seek::from::seek_from;
+use seek_walk::seek_from;
 use sheet_count::count_from;
 use tray::frame::TrayFrame;
 use tray::frame::tray_frame;

@@ -1,7 +1,7 @@
 // A sheet written, once its records are counted.
 use answers::SheetAnswer;
 use list::points::put_all;
-use page::from::page_from;
+use page_walk::page_from;
 use refusal::Refusal;
 use walk::cursor::Cursor;
 ghost use Prim.Native.Nat.{_*_, _≤_, _<_};

@@ -30,9 +30,9 @@ use Rattle.index.specs.Rules.Cuts.{Cut, first-least}
 use Rattle.index.specs.Scan.{nextIn}
 use Rattle.index.specs.Scan.Heads.{head-left}
 use Rattle.index.specs.Scan.Places.{placesOf, getD-placesOf}
-use Rattle.merge.specs.Heads.{highest}
-use Rattle.merge.specs.Heads.Leads.{NextRun, NoRun, LeastKey}
-use Rattle.merge.specs.Heads.Leads.Next.{nextKey-has, nextKey-low}
+use Rattle.merge_lead.specs.Heads.{highest}
+use Rattle.merge_lead.specs.Heads.Leads.{NextRun, NoRun, LeastKey}
+use Rattle.merge_lead.specs.Heads.Leads.Next.{nextKey-has, nextKey-low}
 use Rattle.build_spec.specs.Build.{itemKey}
 use Rattle.build_spec.specs.Build.Laws.{Ready, below-64}
 use Rattle.build_spec.specs.Build.Bytes.{runAt-has}

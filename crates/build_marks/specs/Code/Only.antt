@@ -15,9 +15,9 @@ use Rattle.tray.specs.Frame.{runCount, countOf, runBytes}
 use Rattle.tray.specs.Run.{recordAt}
 use Rattle.index.specs.Scan.{nextIn, raise}
 use Rattle.index.specs.Scan.Code.{Reading}
-use Rattle.merge.specs.Heads.{nextKey}
-use Rattle.merge.specs.Heads.Laws.{RunCut, run-cut}
-use Rattle.merge.specs.Heads.Leads.{NextRun, NoRun, LeastKey}
+use Rattle.merge_lead.specs.Heads.{nextKey}
+use Rattle.merge_lead.specs.Heads.Laws.{RunCut, run-cut}
+use Rattle.merge_lead.specs.Heads.Leads.{NextRun, NoRun, LeastKey}
 use Rattle.build_marks.specs.Code.{spelling, oldMark, putNext, Stopped, Fills, Segmented}
 use Rattle.build_marks.specs.Code.Records.{spelled, Putting, putting-more, putting-end, fills-over}
 

@@ -18,7 +18,7 @@ use Rattle.tray.specs.Frame.{runBytes}
 use Rattle.tray.specs.Run.{recordAt}
 use Rattle.index.specs.Scan.{nextIn, raise}
 use Rattle.index.specs.Scan.Code.{Reading}
-use Rattle.merge.specs.Heads.Leads.{NextRun, NoRun}
+use Rattle.merge_lead.specs.Heads.Leads.{NextRun, NoRun}
 use Rattle.build_marks.specs.Code.{spelling, oldMark, otherKey, Steps, none, more, Stopped, over, other, stop, lower, back, Fills, ends, cuts}
 
 -- the marks

@@ -15,7 +15,7 @@ use Rattle.number.specs.Big.Laws.{length-bytesOf}
 use Rattle.number.specs.Big.Writes.{put-put, put-nil, put-cons}
 use Rattle.theory.specs.Pack.{joined}
 use Rattle.theory.specs.Listed.{listed}
-use Rattle.merge.specs.Heads.Leads.{LeastKey}
+use Rattle.merge_lead.specs.Heads.Leads.{LeastKey}
 use Rattle.build_marks.specs.Code.{offsetsFrom, otherKey, Fills, Segmented}
 
 -- what stands before something that was written

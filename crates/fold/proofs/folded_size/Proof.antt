@@ -1,5 +1,5 @@
 -- `fold::folded_size` meets its contract: the length of each part, by the frame.
-use Rattle.fold.specs.Write.Trays.{laid-parts}
+use Rattle.fold_write.specs.Write.Trays.{laid-parts}
 use Rattle.number.proofs.Known.{bytes-known}
 use native.Mathlib.Omega.{arith}
 use borrow.Author.Needs.{needs}

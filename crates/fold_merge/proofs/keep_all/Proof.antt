@@ -4,7 +4,7 @@ use Rattle.fold_merge.specs.Folding.Start.{merge-short}
 use Rattle.fold_merge.specs.Folding.Keeping.{Merging, merging-none, merging-more, merging-less, merging-end, merging-low}
 use Rattle.fold_merge.specs.Folding.Bound.{next-to, none-to, ended-more}
 use Rattle.fold_merge.specs.Folding.{mergeLeft, leftTo, Ended}
-use Rattle.merge.specs.Heads.Leads.{Heading}
+use Rattle.merge_lead.specs.Heads.Leads.{Heading}
 use Rattle.tray.specs.Frame.{runCount}
 use Rattle.tray.specs.Meaning.Back.{fits-runs}
 use Rattle.number.proofs.Known.{bytes-known}

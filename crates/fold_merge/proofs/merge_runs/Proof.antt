@@ -1,5 +1,5 @@
 -- `fold_merge::merge_runs` meets its contract: with the runs outside a to b at their ends, the merge of what is left is the merge of these runs.
-use Rattle.merge.specs.Heads.Laws.{padded-none}
+use Rattle.merge_lead.specs.Heads.Laws.{padded-none}
 use Rattle.fold_merge.specs.Folding.Moves.{folding-reading, folding-merge, folding-ended, folding-noted}
 use mathlib.Core.Path.{refl}
 use native.Mathlib.Omega.{arith}

@@ -12,9 +12,9 @@ use borrow.Author.Tests.{le-ltb, ltb-true, ltb-false}
 use Rattle.theory.specs.Tests.{cases, order}
 use Rattle.tray.specs.Frame.{runCount, countOf}
 use Rattle.index.specs.Scan.{raise}
-use Rattle.merge.specs.Heads.{highest, keyOr, nextKey}
-use Rattle.merge.specs.Heads.Leads.{Ahead, one, all, Heading, Chosen, keyed, left, NextRun, NoRun}
-use Rattle.merge.specs.Heads.Leads.Next.{next-run, next-none}
+use Rattle.merge_lead.specs.Heads.{highest, keyOr, nextKey}
+use Rattle.merge_lead.specs.Heads.Leads.{Ahead, one, all, Heading, Chosen, keyed, left, NextRun, NoRun}
+use Rattle.merge_lead.specs.Heads.Leads.Next.{next-run, next-none}
 use Rattle.fold_merge.specs.Folding.{Ended}
 
 -- the key that is kept of a run at its end

@@ -27,7 +27,7 @@ use Rattle.tray.specs.Check.{Sound}
 use Rattle.tray.specs.Meaning.{runsOf, Fits}
 use Rattle.index.specs.Scan.{nextIn, raise}
 use Rattle.index.specs.Scan.Code.{Reading}
-use Rattle.merge.specs.Heads.Leads.{NextRun, NoRun}
+use Rattle.merge_lead.specs.Heads.Leads.{NextRun, NoRun}
 use Rattle.fold_merge.specs.Folding.{mergeLeft, mergeFrom, newFrom, leftTo, nextAt, noted, Noted}
 use Rattle.fold_merge.specs.Folding.Left.{next-key, merge-next, merge-pass, merge-end, merge-all, next-low, left-less}
 

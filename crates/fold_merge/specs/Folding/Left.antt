@@ -32,8 +32,8 @@ use Rattle.tray.specs.Check.{Sound}
 use Rattle.tray.specs.Meaning.{runsOf, Fits}
 use Rattle.tray.specs.Meaning.Laws.{runIn, length-runOf, getElem?-runOf, mem-runOf, mem-runsOf, rises-runOf}
 use Rattle.index.specs.Scan.{nextIn, raise}
-use Rattle.merge.specs.Heads.{highest}
-use Rattle.merge.specs.Heads.Leads.{NextRun, NoRun}
+use Rattle.merge_lead.specs.Heads.{highest}
+use Rattle.merge_lead.specs.Heads.Leads.{NextRun, NoRun}
 use Rattle.index.specs.Rules.{keyOf}
 use Rattle.fold_merge.specs.Folding.{leftOf, mergeLeft, fromKey, mergeFrom, leftTo}
 use Rattle.fold_merge.specs.Folding.Step.{Above, from-all, from-drop, from-nil, given, turn-from, turn-some, firstOf-is, merged-turn, merged-nils}

@@ -5,7 +5,7 @@ use mathlib.Core.Path.{_≡_, refl, sym}
 use lib.ListN.{length}
 use Rattle.number.proofs.Known.{bytes-known}
 use Rattle.index.specs.Scan.Code.{Reading}
-use Rattle.build.specs.Segment.Loops.{Merging, merging-none, merging-low, merging-end, merging-less, merging-more, sounded-ready, sounded-fits, sounded-reading, front-long, front-back}
+use Rattle.build_segment.specs.Segment.Loops.{Merging, merging-none, merging-low, merging-end, merging-less, merging-more, sounded-ready, sounded-fits, sounded-reading, front-long, front-back}
 use Rattle.build_spec.specs.Build.Bytes.{cuts-few}
 use native.Mathlib.Omega.{arith}
 use borrow.Author.Needs.{needs}

@@ -1,5 +1,5 @@
 use mathlib.Core.Path.{refl}
-use Rattle.merge.specs.Heads.Leads.Laws.{raised}
+use Rattle.merge_lead.specs.Heads.Leads.Laws.{raised}
 -- `build_marks::only::put_next` meets its contract. `only-cut` says that the stretch handed on is the run.
 use Rattle.build_marks.specs.Code.Only.{only-cut, only-key, only-spelled}
 use Rattle.build_marks.specs.Code.Records.{mark-low, old-low}

@@ -1,7 +1,7 @@
 -- `build_take::several::put_keys` meets its contract: what comes next has the last key, has another one, or is nothing.
 use Rattle.build_marks.specs.Code.Records.{fills-cut, fills-other, fills-over}
 use Rattle.build_marks.specs.Code.Taken.{steps-select}
-use Rattle.merge.specs.Heads.Leads.Next.{next-run, next-none}
+use Rattle.merge_lead.specs.Heads.Leads.Next.{next-run, next-none}
 use native.Mathlib.Omega.{arith}
 use borrow.Author.Needs.{needs}
 use Rattle.build_take.proofs.several.put_keys.Statement.{statement}

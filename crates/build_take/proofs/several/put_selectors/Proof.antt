@@ -1,8 +1,8 @@
 -- `build_take::several::put_selectors` meets its contract. Invariant: records have been written as far as a place. Measure: the room left.
 use Prim.Native.Nat.{_-_}
 use Rattle.build_marks.specs.Code.Records.{Putting, putting-none, putting-more, putting-end, old-low}
-use Rattle.merge.specs.Heads.Leads.{Heading}
-use Rattle.merge.specs.Heads.Leads.Next.{next-run, next-none}
+use Rattle.merge_lead.specs.Heads.Leads.{Heading}
+use Rattle.merge_lead.specs.Heads.Leads.Next.{next-run, next-none}
 use native.Mathlib.Omega.{arith}
 use borrow.Author.Needs.{needs}
 use Rattle.build_take.proofs.several.put_selectors.Statement.{statement}

@@ -1,7 +1,7 @@
 -- `build_take::several::take_record` meets its contract. `run-cut` says that the stretch handed on is run r.
 use Rattle.build_marks.specs.Code.Records.{mark-low, spelled}
-use Rattle.merge.specs.Heads.Leads.Laws.{place-low}
-use Rattle.merge.specs.Heads.Laws.{run-cut}
+use Rattle.merge_lead.specs.Heads.Leads.Laws.{place-low}
+use Rattle.merge_lead.specs.Heads.Laws.{run-cut}
 use native.Mathlib.Omega.{arith}
 use borrow.Author.Needs.{needs}
 use Rattle.build_take.proofs.several.take_record.Statement.{statement}
