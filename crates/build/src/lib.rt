@@ -1,4 +1,6 @@
 // The builder of indexes (docs/RULES.md, "The index"): each key's versions go into the current segment if all fit and else open a new one.
+#![tactic(auto)]
+
 pub mod segments;
 
 ghost use Rattle.std.specs.Prelude.{◌≡◌, [], ◌∷◌, ◌++◌, ◌≤◌, length};

@@ -1,4 +1,6 @@
 // The records of a segment: their marks, and the last key given back where it does not fit.
+#![tactic(auto)]
+
 ghost use Rattle.std.specs.Prelude.{◌≡◌, cond, ◌-◌, ◌%◌, ◌≤◌, ◌<◌, length, eqb};
 ghost use Rattle.build_marks.specs.Code.{old_mark, other_key, stop, back, Selecting};
 
@@ -26,7 +28,7 @@ pub fn other_key(key: u64) -> u64
 }
 
 // Where records end, and the key of the last one.
-#[derive(Drop)]
+#[derive(Clone, Copy)]
 pub struct Reach {
     pub at: usize,
     pub last: u64,

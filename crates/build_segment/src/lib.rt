@@ -1,4 +1,6 @@
 // One segment: its anchor, its offsets, the selectors of its records, and placeholders to its end.
+#![tactic(auto)]
+
 ghost use Rattle.std.specs.Prelude.{◌≡◌, ◌+◌, ◌*◌, ◌-◌, ◌≤◌, length, replicate};
 ghost use Rattle.number.specs.Big.{put};
 ghost use Rattle.tray.specs.Frame.{run_count};

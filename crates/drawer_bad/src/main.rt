@@ -1,4 +1,6 @@
 // The program `drawer` on lines that are bad, and on what stands next to them: its input and output are here to compare.
+#![tactic(auto)]
+
 use drawer_io::run;
 
 fn main() {

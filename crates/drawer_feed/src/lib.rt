@@ -1,4 +1,6 @@
 // The lines of an input that comes in pieces: what is carried from piece to piece, where a line ends, and its characters gathered.
+#![tactic(auto)]
+
 ghost use Rattle.std.specs.Prelude.{◌≡◌, ◌≤◌, ◌++◌, length, take};
 ghost use Rattle.drawer_spec.specs.Line.Front.{Front};
 ghost use Rattle.drawer_spec.specs.Feed.Code.{gather_size, first, LineEnd};

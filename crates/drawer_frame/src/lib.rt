@@ -1,4 +1,6 @@
 // One function a kind of frame: what it does with the kept tray and index, and its answer line.
+#![tactic(auto)]
+
 pub mod says;
 
 ghost use Rattle.std.specs.Prelude.{◌≡◌, ◌≤◌, length};

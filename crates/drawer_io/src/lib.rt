@@ -1,6 +1,8 @@
 // The program: standard input to its end, in whatever pieces the system hands out, and the answer lines to standard output in large writes. What
 // happens in between is `take_lines` and `finish`: of a piece `serve` promises that each byte is fed once, in order, and that the output holds the
 // end of what was said. No contract can say what is read or written: that a piece is what was read, and that what left the output was written.
+#![tactic(auto)]
+
 ghost use Rattle.std.specs.Prelude.{◌≡◌, true, length};
 ghost use Rattle.drawer_serve.specs.Ready.{Buffers, Ready};
 

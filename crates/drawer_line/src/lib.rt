@@ -1,5 +1,7 @@
 // The line language of the program `drawer` (docs/DRAWER.md): one line in, the kept tray and index and the answer line out. A line is any bytes
 // without a line feed; what it does and says is `turn`, for every line.
+#![tactic(auto)]
+
 ghost use Rattle.std.specs.Prelude.{◌≡◌, ◌≤◌, length, take};
 ghost use Rattle.drawer_spec.specs.Line.{room_size, bad_answer, formed as formed_line, turn, answer_line};
 ghost use Rattle.drawer_spec.specs.Line.Front.{line_size, Front};

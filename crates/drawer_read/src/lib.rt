@@ -1,5 +1,7 @@
 // The lines of an input that comes in pieces, and their answers: what a piece adds to what is carried. It neither reads nor writes; what it does
 // with any pieces is `feed`, as if all bytes came at once.
+#![tactic(auto)]
+
 ghost use Rattle.std.specs.Prelude.{◌≡◌, ◌≤◌, length};
 ghost use Rattle.drawer_spec.specs.Feed.Code.{gather_size, last_room, Rooms, Answers, Ends, Takes, Finishes};
 

@@ -1,5 +1,7 @@
 // A piece of the input, whole, and the output written where it is full. Each byte of a piece is fed once, in order, and the output holds the end
 // of what was said; that what left the output was written no contract can say.
+#![tactic(auto)]
+
 ghost use Rattle.std.specs.Prelude.{◌≡◌, true, ◌≤◌, length};
 ghost use Rattle.drawer_serve.specs.Ready.{Ready, Room};
 ghost use Rattle.drawer_serve.specs.Serves.{Serves};
@@ -9,7 +11,7 @@ use drawer_spec::Carried;
 use libc::STDOUT_FILENO;
 
 // What is carried, and whether there is more to do.
-#[derive(Drop)]
+#[derive(Clone, Copy)]
 pub struct Served {
     pub carried: Carried,
     pub open: bool,

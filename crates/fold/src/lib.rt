@@ -1,4 +1,6 @@
 // Folding neighbouring runs into one (docs/RULES.md, "Folding").
+#![tactic(auto)]
+
 ghost use Rattle.std.specs.Prelude.{◌≡◌, ◌≤◌, length};
 ghost use Rattle.tray.specs.Meaning.{runs_of};
 ghost use Rattle.fold_merge.specs.Folding.{Folding};

@@ -1,4 +1,6 @@
 // The runs a to b merged: where each record that is left stands in the tray. The other runs count as read to their ends.
+#![tactic(auto)]
+
 pub mod keep;
 
 ghost use Rattle.std.specs.Prelude.{◌≡◌, ◌<◌, length, get_or};

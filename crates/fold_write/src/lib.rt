@@ -1,4 +1,6 @@
 // The folded tray written: its head, and its runs with the kept records in their place. All but the kept records is copied from the tray.
+#![tactic(auto)]
+
 ghost use Rattle.std.specs.Prelude.{◌≡◌, map, ◌+◌, ◌-◌, ◌*◌, ◌≤◌, ◌<◌, length, take};
 ghost use Rattle.number.specs.Big.{put};
 ghost use Rattle.theory.specs.Rising.{All};

@@ -1,4 +1,6 @@
 // Lower-case hexadecimal in byte slices. No leaf has a branch that depends on a character, so that a stretch goes many characters at a time.
+#![tactic(auto)]
+
 ghost use Rattle.std.specs.Prelude.{◌≡◌, true, ◌+◌, ◌*◌, ◌/◌, ◌≤◌, ◌<◌, length};
 ghost use Rattle.number.specs.Big.{put};
 ghost use Rattle.hexadecimal.specs.Hex.{is_digit, digit_of, digit as digit_for, all_digits, bytes_in, hex_of};

@@ -7,7 +7,7 @@ use crate::SegmentNo;
 use number::{big4, usize_of_u8};
 
 // What the frame says: the segment size and the segment count, or that it does not fit.
-#[derive(Drop)]
+#[derive(Clone, Copy)]
 pub enum IndexFrame {
     Fits(u8, u32),
     Wrong,

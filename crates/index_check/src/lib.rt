@@ -1,4 +1,6 @@
 // Check index: whether an index follows the rules for its tray (docs/RULES.md, "The index").
+#![tactic(auto)]
+
 ghost use Rattle.std.specs.Prelude.{◌≡◌};
 ghost use Rattle.tray.specs.Frame.{Opened};
 ghost use Rattle.index.specs.Check.{framed_index, judge_index, check_index_answer};

@@ -99,7 +99,7 @@ pub fn used_up(counts: &[u16], places: &[u16], h: u8) -> bool
 }
 
 // What some selectors come to: whether they are right, and the key of the last record.
-#[derive(Drop)]
+#[derive(Clone, Copy)]
 struct Steps {
     right: bool,
     last: u64,

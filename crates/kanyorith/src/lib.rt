@@ -1,6 +1,8 @@
 // The public face (docs/RULES.md, "The calls"): one call for each of its calls, for C and Rust alike. Every call takes any bytes and ends. It
 // answers the number of a refusal, or 0, and its figure beside it; what each call promises stands in `specs/Promises.antt`, and what follows
 // from the promises in `specs/Theorems.antt`. The declarations for C are in `include/kanyorith.h`.
+#![tactic(auto)]
+
 mod cursor;
 mod told;
 

@@ -1,4 +1,6 @@
 // Runs the limits (docs/RULES.md, "Run by a program") through the public calls, a line a case.
+#![tactic(auto)]
+
 ghost use Rattle.std.specs.Prelude.{◌<◌, ◌≤◌, length};
 
 use limits_tell::fill::{fill_records, fill_tray};

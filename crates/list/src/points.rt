@@ -12,7 +12,7 @@ use tray::{Place, RunNo};
 use walk::cursor::Cursor;
 
 // How a page ends: at a record that is not written, at the end, or lost at a selector of a segment.
-#[derive(Drop)]
+#[derive(Clone, Copy)]
 pub enum Halt {
     More,
     End,
@@ -20,7 +20,7 @@ pub enum Halt {
 }
 
 // The end of a page: how many records were written, and the cursor of the first that was not.
-#[derive(Drop)]
+#[derive(Clone, Copy)]
 pub struct Paged {
     pub stop: Halt,
     pub count: usize,

@@ -17,7 +17,7 @@ pub fn is_unmarked(v: u8) -> usize
 }
 
 // How many records stand gathered, and the selector where the walk of the segment stopped.
-#[derive(Drop)]
+#[derive(Clone, Copy)]
 pub struct Gathered {
     pub count: usize,
     pub stop: usize,

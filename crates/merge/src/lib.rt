@@ -1,4 +1,6 @@
 // What is kept of each run while all are merged: its next key and the one after it, filled at the start and renewed where a record is taken.
+#![tactic(auto)]
+
 ghost use Rattle.std.specs.Prelude.{◌≡◌, ◌+◌, ◌*◌, ◌<◌, length, get_or};
 ghost use Rattle.tray.specs.Frame.{run_count, count_of};
 ghost use Rattle.index.specs.Scan.Code.{Reading};

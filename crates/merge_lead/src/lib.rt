@@ -1,12 +1,14 @@
 // Which run comes next: the first of those with the least key. Of each block of eight runs that one is kept, so that a record taken
 // renews one block. The key after the next one is kept too, so that none is waited for.
+#![tactic(auto)]
+
 ghost use Rattle.std.specs.Prelude.{◌≡◌, cond, ◌+◌, ◌*◌, ◌≤◌, ◌<◌, length, ltb};
 ghost use Rattle.merge_lead.specs.Heads.Leads.{First, Half, Topped, Kept, Ahead, FirstLeft, Chosen};
 
 use number::usize_of_u8;
 
 // A key, and the first run that has it.
-#[derive(Drop)]
+#[derive(Clone, Copy)]
 pub struct Lead {
     pub key: u64,
     pub run: u8,

@@ -1,4 +1,6 @@
 // Big-endian numbers in byte slices: the leaves that everything above reads and writes bytes with.
+#![tactic(auto)]
+
 ghost use Rattle.std.specs.Prelude.{◌≡◌, ◌+◌, ◌≤◌, length};
 ghost use Rattle.number.specs.Big.{be, bytes_of, put};
 

@@ -1,4 +1,6 @@
 // Page: key and value of each visible record from a cursor on, as far as there is room.
+#![tactic(auto)]
+
 ghost use Rattle.std.specs.Prelude.{◌≡◌, ◌+◌, ◌*◌, ◌≤◌, ◌<◌, length};
 ghost use Rattle.tray.specs.Frame.{Starts};
 ghost use Rattle.index.specs.Layout.{segment_at};

@@ -1,9 +1,11 @@
 // Why a call refuses: the table of docs/RULES.md, "Refusals by number", as one enum, so that each refusal is made in one way.
+#![tactic(auto)]
+
 ghost use Rattle.std.specs.Prelude.{◌≡◌};
 ghost use Rattle.refusal.specs.Table.{lost_figure, verdict_of};
 
 // A line of the table each, in its order. What a variant holds is what its figure is made of.
-#[derive(Drop)]
+#[derive(Clone, Copy)]
 pub enum Refusal {
     // The tray breaks the header, count or length rules.
     TrayFrame,
@@ -32,7 +34,7 @@ pub enum Refusal {
 }
 
 // A refusal as a caller gets it: its number in the table and its figure.
-#[derive(Drop)]
+#[derive(Clone, Copy)]
 pub struct Verdict {
     pub number: u8,
     pub figure: u64,

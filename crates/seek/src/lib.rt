@@ -1,4 +1,6 @@
 // The call seek: it tests the frames and every place that it follows, not the whole index.
+#![tactic(auto)]
+
 pub mod get;
 
 ghost use Rattle.std.specs.Prelude.{◌≡◌};

@@ -1,4 +1,6 @@
 // Seek: the first record at or above a key where the walk stays.
+#![tactic(auto)]
+
 ghost use Rattle.std.specs.Prelude.{◌≡◌, ◌-◌, ◌<◌};
 ghost use Rattle.tray.specs.Frame.{run_count, count_of, Starts};
 ghost use Rattle.walk.specs.Walk.{ended, walk_segments};

@@ -1,6 +1,8 @@
 // Sheet (docs/RULES.md, "Reading through an index"): it seeks the prefix filled with zeros and lists each record where the walk stays, until the
 // first key at or above the prefix with its last byte raised by one, filled with zeros. It tests the frames, the prefix and every place that it
 // follows, and writes only once it is sure.
+#![tactic(auto)]
+
 pub mod bounds;
 pub mod write;
 

@@ -1,5 +1,7 @@
 // How many records sheet lists: the walk of its first pass, which writes nothing. It goes a segment at a time, and remembers where the records
 // stand as long as there is room for those of a segment.
+#![tactic(auto)]
+
 ghost use Rattle.std.specs.Prelude.{◌≡◌, cond, [], ◌+◌, ◌*◌, ◌≤◌, ◌<◌, leb, length, take};
 ghost use Rattle.tray.specs.Frame.{Starts};
 ghost use Rattle.walk.specs.Walk.{walk_from};
@@ -19,7 +21,7 @@ use walk::cursor::{Cursor, place_numbers, reload};
 
 // The end of a count: where the walk stopped, how many records it passed that are to be listed, and how many of them, the last ones, are
 // remembered.
-#[derive(Drop)]
+#[derive(Clone, Copy)]
 pub struct Counted {
     pub stop: Halt,
     pub count: usize,

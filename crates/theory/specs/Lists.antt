@@ -13,7 +13,7 @@ use Rattle.std.specs.Prelude.{◌≡◌, refl, ℕ, zero, suc, ◌+◌, ◌≤�
 use Rattle.std.proofs.Common.{sym, ap, ◌∙◌, ⊎_elim, not-suc-le-zero, arith, length-append, take-append-drop, drop_of_length-le, drop-drop, drop_at}
 use Rattle.std.proofs.Math.Option.{Option, none, some, some-injective}
 use mathlib.Core.List.Memᴰ
-use mathlib.Core.List.{List, [], ◌∷◌, ◌++◌, append-nil, head-eq_of_cons-eq, tail-eq_of_cons-eq, IsChain, rel_of_Is_chain-cons-cons, IsChain-of_Is_chain-cons}
+use mathlib.Core.List.{List, [], ◌∷◌, ◌++◌, append-nil, head-eq_of_cons-eq, tail-eq_of_cons-eq, IsChain, rel_of_IsChain-cons-cons, IsChain-of_IsChain-cons}
 use Rattle.std.proofs.Math.ListN.{get_elem?}
 use Rattle.theory.specs.Tests.{never}
 use Rattle.theory.specs.Rising.{Mem, All}
@@ -84,8 +84,8 @@ module _ {A : Type 0} where
 
   -- neighbours anywhere in a chain are related
   pub chain-at : {R : A → A → Type 0} (us : List A) {x y : A} (vs : List A) → IsChain R (us ++ (x ∷ y ∷ vs)) → R x y
-  chain-at [] vs c = rel_of_Is_chain-cons-cons c
-  chain-at (u ∷ us) vs c = chain-at us vs (IsChain-of_Is_chain-cons c)
+  chain-at [] vs c = rel_of_IsChain-cons-cons c
+  chain-at (u ∷ us) vs c = chain-at us vs (IsChain-of_IsChain-cons c)
 
   -- of two lists put together the first member is the first one's, where that has any
   pub first-before : (g r s : List A) (b : A) → 0 < length g → g ++ r ≡ b ∷ s → (g₂ : List A) × (g ≡ b ∷ g₂)

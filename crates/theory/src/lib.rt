@@ -1,1 +1,2 @@
 // The theory of runs, views and folds. There is no code here: the definitions and laws are in specs/.
+#![tactic(auto)]

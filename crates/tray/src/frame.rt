@@ -7,7 +7,7 @@ use crate::RunNo;
 use number::{big2, usize_of_u8, usize_of_u16};
 
 // What the frame says. Where it does not fit, the other fields mean nothing.
-#[derive(Drop)]
+#[derive(Clone, Copy)]
 pub struct TrayFrame {
     pub fits: bool,
     pub runs: u8,

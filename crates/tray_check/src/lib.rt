@@ -1,4 +1,6 @@
 // The check of a whole tray, in one pass.
+#![tactic(auto)]
+
 pub mod run;
 
 ghost use Rattle.std.specs.Prelude.{◌≡◌};

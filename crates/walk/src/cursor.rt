@@ -8,7 +8,7 @@ use index::SegmentNo;
 use number::{big2, usize_of_u8};
 use tray::{Place, RunNo};
 
-#[derive(Drop)]
+#[derive(Clone, Copy)]
 pub struct Cursor {
     pub segment: SegmentNo,
     pub selector: u8,
@@ -55,7 +55,7 @@ pub fn place_numbers(places: [Place; 63]) -> [u16; 63]
 }
 
 // Where a walk ends: at a record, at the end, or lost at a selector of a segment.
-#[derive(Drop)]
+#[derive(Clone, Copy)]
 pub enum Sight {
     Found(RunNo, Place),
     End,
@@ -63,7 +63,7 @@ pub enum Sight {
 }
 
 // The end of a walk with its cursor.
-#[derive(Drop)]
+#[derive(Clone, Copy)]
 pub struct Sought {
     pub sight: Sight,
     pub cursor: Cursor,

@@ -1,4 +1,6 @@
 // Whether a cursor belongs to an index: it is the end, or each place is the offset plus that run's selectors earlier in the segment.
+#![tactic(auto)]
+
 ghost use Rattle.std.specs.Prelude.{◌≡◌, ◌+◌, ◌-◌, ◌*◌, ◌≤◌, ◌<◌, length};
 ghost use Rattle.index.specs.Scan.Code.{same_to};
 ghost use Rattle.walk.specs.Start.Code.{Probing};

@@ -13,7 +13,7 @@ use Rattle.std.proofs.Math.Path.{refl, ap}
 use Rattle.std.proofs.Common.{◌∙◌, le-div_iff_mul-le, leb-true, leb-false}
 use mathlib.Core.List.Memᴰ
 use mathlib.Core.List.IsChain
-use mathlib.Core.List.{List, [], ◌∷◌, ◌++◌, map, append-nil, append_assoc, IsChain, rel_of_Is_chain-cons-cons, IsChain-of_Is_chain-cons}
+use mathlib.Core.List.{List, [], ◌∷◌, ◌++◌, map, append-nil, append_assoc, IsChain, rel_of_IsChain-cons-cons, IsChain-of_IsChain-cons}
 use Prim.Native.Nat.{ℕ, suc, ◌+◌, ◌*◌, ◌/◌, ◌≤◌, ◌<◌, zero-le}
 use Rattle.std.proofs.Math.Nat.{zero-mul, suc-mul}
 use native.Mathlib.Omega.{arith}
@@ -138,11 +138,11 @@ module _ {A : Type 0} where
           → All (λ g. 0 < length g) gs → IsChain (Cut f) (s ∷ gs) → IsChain (Cut f) ss
       packs-cut ends full c = c
       packs-cut (fits {s = s} l p) full c =
-          let later = IsChain-of_Is_chain-cons c in
+          let later = IsChain-of_IsChain-cons c in
           packs-cut p (all_tail full) (IsChain.cons_of_imp (λ g'. cut-after f s (full _ here)) later)
       packs-cut (opens l p) full c =
-          let later = packs-cut p (all_tail full) (IsChain-of_Is_chain-cons c) in
-          chain-opens _ (λ r. cut-before f r (full _ here) (rel_of_Is_chain-cons-cons c)) p later
+          let later = packs-cut p (all_tail full) (IsChain-of_IsChain-cons c) in
+          chain-opens _ (λ r. cut-before f r (full _ here) (rel_of_IsChain-cons-cons c)) p later
 
       -- groups that are cut from each other make segments that are
       pack-cuts : (gs : List (List A)) → All (λ g. 0 < length g) gs → IsChain (Cut f) gs → IsChain (Cut f) (pack d gs)
@@ -185,8 +185,8 @@ module _ {A : Type 0} where
     pairs-bound [] c = simp zero-mul zero-le
     pairs-bound (s ∷ []) c = simp zero-mul zero-le
     pairs-bound (s ∷ s' ∷ ss) c =
-        let two : Pair s s' = rel_of_Is_chain-cons-cons c in
-        let later = pairs-bound ss (IsChain-of_Is_chain-cons (IsChain-of_Is_chain-cons c)) in
+        let two : Pair s s' = rel_of_IsChain-cons-cons c in
+        let later = pairs-bound ss (IsChain-of_IsChain-cons (IsChain-of_IsChain-cons c)) in
         let half : suc (suc (length ss)) / 2 ≡ suc (length ss / 2) = omega arith in
         simp (half, suc-mul, length-append) (omega arith)
 
