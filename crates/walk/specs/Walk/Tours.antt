@@ -95,7 +95,7 @@ module _ {A : Type 0} where
     each_none : Each P []
     each_more : {a : A} {xs : List A} → P a xs → Each P xs → Each P (a ∷ xs)
 
-  pub each_append : {P : A → List A → Type 0} {xs ys : List A} → Each (λ a us. P a (us ++ ys)) xs → Each P ys → Each P (xs ++ ys)
+  pub each_append : {P : A → List A → Type 0} {ys xs : List A} → Each (λ a us. P a (us ++ ys)) xs → Each P ys → Each P (xs ++ ys)
   each_append each_none k = k
   each_append (each_more p h) k = each_more p (each_append h k)
 

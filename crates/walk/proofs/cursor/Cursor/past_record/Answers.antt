@@ -1,0 +1,9 @@
+-- `walk::cursor::Cursor::past_record` meets its contract.
+use Rattle.walk.specs.Code.Moves.{moved-record, same_place}
+use native.Mathlib.Omega.{arith}
+use Rattle.walk.proofs.cursor.Cursor.past_record.Goals as goal
+
+pub returns : goal.returns
+returns c =
+    let usize-of-u8 = c.usize_of_u8-i in
+    moved-record _ usize-of-u8.ensures
