@@ -1,5 +1,6 @@
 -- `index_scan::segment::check_following` meets its contract. Invariant: the selectors left answer for all of them. Measure: the selectors left.
 use Rattle.index.specs.Scan.Code.{trailed}
+use mathlib.Core.Path.{◌∙◌}
 use Prim.Native.Nat.{◌-◌}
 use Rattle.index.specs.Scan.Code.Follow.{following-starts, following-on, following-lost, following-ended, following-end}
 use Rattle.index_scan.proofs.segment.check_following.Goals as goal
@@ -22,6 +23,16 @@ check_next-s-requires c =
     let loop = c.loop-i in
     let pre = c.requires in record { reading = loop.invariant.reading; h_value = (pre.h_value.0, loop.invariant.run) }
 
+pub loop-i-preserved : goal.loop-i-preserved
+loop-i-preserved c =
+    let back = c in
+    let check-next = back.check_next-s in
+    let check-next-places-kept = back.check_next-s.auto.places in
+    let if1 = back.if-v-eq63 in
+    let loop-test = back.loop-i-test in
+    let loop = back.loop-i in
+    following-on loop.invariant _ _ _ loop-test.true if1.false check-next.ensures c.if-right.true check-next-places-kept
+
 pub returns-in-loop-i : goal.returns-in-loop-i
 unfolding trailed
 returns-in-loop-i c =
@@ -37,13 +48,3 @@ unfolding trailed
 returns c =
     let loop = c.loop-i in
     following-end loop.invariant c.loop-i-test.false
-
-pub loop-i-preserved : goal.loop-i-preserved
-loop-i-preserved c =
-    let back = c in
-    let check-next = back.check_next-s in
-    let check-next-places-kept = back.check_next-s.auto.1.1.1.1.0 in
-    let if1 = back.if-v-eq63 in
-    let loop-test = back.loop-i-test in
-    let loop = back.loop-i in
-    following-on loop.invariant _ _ _ loop-test.true if1.false check-next.ensures c.if-right.true check-next-places-kept

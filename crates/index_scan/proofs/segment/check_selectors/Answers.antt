@@ -10,6 +10,24 @@ check_first-s-requires c =
     let pre = c.requires in
     let reading = c.requires.reading in record { reading = reading; h_value = pre.h_value }
 
+pub check_following-w-requires : goal.check_following-w-requires
+check_following-w-requires c =
+    let back = c in
+    let check-first-places-kept = back.check_first-s.auto.places in
+    let back = back in
+    let pre = back.requires in
+    let reading = back.requires.reading in record { reading = reading-same reading check-first-places-kept; h_value = (pre.h_value, omega arith); from_le_to = omega arith }
+
+pub heads_above-requires : goal.heads_above-requires
+heads_above-requires c =
+    let back = c in
+    let check-following-places-kept = back.check_following-w.auto.places in
+    let back = back in
+    let check-first-places-kept = back.check_first-s.auto.places in
+    let back = back in
+    let pre = back.requires in
+    let reading = back.requires.reading in record { reading = reading-same reading (check-following-places-kept ∙ check-first-places-kept); h_value = pre.h_value }
+
 pub returns-then-kept : goal.returns-then-kept
 returns-then-kept c =
     let if2 = c.if-kept in

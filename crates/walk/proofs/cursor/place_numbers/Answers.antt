@@ -21,5 +21,5 @@ loop-i-preserved c =
 pub returns : goal.returns
 returns c =
     let loop = c.loop-i in
-    let t1-good = c.well-formed.0 in
+    let t1-good = c.well_formed.0 in
     copy-end loop.invariant c.loop-i-test.false t1-good.1.0.1
