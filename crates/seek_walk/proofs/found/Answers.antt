@@ -9,4 +9,4 @@ unfolding sought_of sought_as spot_of sight_at
 returns c =
     let usize-of-u8 = c.usize_of_u8-i in
     let args = c.args in
-    ap (sight_at args.g args.s args.t3 args.v) usize-of-u8.ensures
+    ap (sight_at args.g args.s args.places args.v) usize-of-u8.ensures
