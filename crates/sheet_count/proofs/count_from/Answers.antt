@@ -2,7 +2,7 @@
 -- Measure: the segments left.
 use mathlib.Core.Path.{◌≡◌, refl, sym, ap, ◌∙◌}
 use Prim.Native.Nat.{◌-◌}
-use lib.ListN.{length, length-map}
+use lib.ListN.{length}
 use Rattle.walk.specs.Reads.{sheet_visit}
 use Rattle.walk.specs.Code.{numbers-back, length-numbers, length-places, places-room}
 use Rattle.walk.specs.Code.Turns.{within}
@@ -11,7 +11,19 @@ use Rattle.list.specs.Steps.{onward-same, onward-from}
 use Rattle.sheet_count.specs.Count.{counted_as}
 use Rattle.sheet_count.specs.Count.Code.{counting-first, counting-fits, round, counting-on, counting-enter, counted, counted-few, counted-past, counted-lost, counted-end}
 use native.Mathlib.Omega.{arith}
+use Rattle.std.proofs.Common.{rules}
 use Rattle.sheet_count.proofs.count_from.Goals as goal
+
+pub loop-held-init : goal.loop-held-init
+loop-held-init c =
+    let back = c in
+    let args = back.args in
+    let pre = back.requires in
+    let r : length args.from.places ≡ 63 = search rules in
+    counting-first _ _ _ _ _
+    pre.segment_lt_n.0
+    pre.segment_lt_n.1
+    (length-places _ ∙ ap length c.place_numbers-places.ensures ∙ length-numbers args.from.places ∙ r)
 
 pub overflow_sub-size : goal.overflow_sub-size
 overflow_sub-size c =
@@ -34,7 +46,7 @@ slice_bounds-gather-end c =
 pub gather-m-requires : goal.gather-m-requires
 gather-m-requires c =
     let back = c in
-    let Slots-kept = back.slots_kept-before in
+    let slots_kept = back.slots_kept-before in
     let usize-of-u82 = back.usize_of_u8-at in
     let loop = back.loop-held in
     let back = back in
@@ -47,7 +59,7 @@ gather-m-requires c =
         loop.invariant.here.on.inside,
         omega (arith, loop.invariant.here.on.high, usize-of-u82.ensures),
         places-room _ loop.invariant.here.room,
-        omega (arith, Slots-kept.ensures.more_bound, usize-of-u8.ensures, usize-of-u82.ensures, loop.invariant.here.on.high, loop.invariant.kept),
+        omega (arith, slots_kept.ensures.more_bound, usize-of-u8.ensures, usize-of-u82.ensures, loop.invariant.here.on.high, loop.invariant.kept),
       );
     }
 
@@ -57,7 +69,7 @@ first_past-held-requires c =
     let gather = back.gather-m in
     let gather-ats-kept = back.gather-m.auto.ats in
     let back = back in
-    let Slots-kept = back.slots_kept-before in
+    let slots_kept = back.slots_kept-before in
     let loop = back.loop-held in
     let back = back in
     let usize-of-u8 = back.usize_of_u8-size in
@@ -65,11 +77,11 @@ first_past-held-requires c =
     let starts = back.requires.starts in record {
       within = gathered-within
           starts.frame
-          (counting-fits loop.invariant (sym loop.invariant.kept) (omega (arith, pre.segment_lt_n.2, usize-of-u8.ensures)) Slots-kept.ensures.value).within
+          (counting-fits loop.invariant (sym loop.invariant.kept) (omega (arith, pre.segment_lt_n.2, usize-of-u8.ensures)) slots_kept.ensures.value).within
           gather.ensures;
       from_le_to = (
         gather.ensures.least,
-        omega (arith, gather.ensures.few, gather.ensures.high, Slots-kept.ensures.more_bound, usize-of-u8.ensures, loop.invariant.kept, gather-ats-kept),
+        omega (arith, gather.ensures.few, gather.ensures.high, slots_kept.ensures.more_bound, usize-of-u8.ensures, loop.invariant.kept, gather-ats-kept),
       );
     }
 
@@ -100,18 +112,6 @@ reload-requires c =
     let walking = back.requires.walking in
     (omega (arith, within walking if3.false segment-at.ensures), walking.few, gather-places-kept ∙ places-room _ loop.invariant.here.room)
 
-pub loop-held-init : goal.loop-held-init
-loop-held-init c =
-    let back = c in
-    let args = back.args in
-    let from-good = back.well_formed.1.1.1.1.1.1.1.0 in
-    let pre = back.requires in
-    let r : length args.from.places ≡ 63 = sym (length-map args.from.places _) ∙ from-good.1.1.1.1.0.1.0.1 in
-    counting-first _ _ _ _ _
-    pre.segment_lt_n.0
-    pre.segment_lt_n.1
-    (length-places _ ∙ ap length c.place_numbers-places.ensures ∙ length-numbers args.from.places ∙ r)
-
 pub returns-then-held-k : goal.returns-then-held-k
 unfolding counted_as
 returns-then-held-k c =
@@ -121,7 +121,7 @@ returns-then-held-k c =
     let gather = back.gather-m in
     let gather-ats-kept = back.gather-m.auto.ats in
     let back = back in
-    let Slots-kept = back.slots_kept-before in
+    let slots_kept = back.slots_kept-before in
     let back = back in
     let usize-of-u82 = back.usize_of_u8-at in
     let loop = back.loop-held in
@@ -136,7 +136,7 @@ returns-then-held-k c =
     let walking = back.requires.walking in
     let starts = back.requires.starts in
     let turn =
-    (round loop.invariant starts.frame usize-of-u8.ensures usize-of-u82.ensures pre.segment_lt_n.2 Slots-kept.ensures gather.ensures
+    (round loop.invariant starts.frame usize-of-u8.ensures usize-of-u82.ensures pre.segment_lt_n.2 (slots_kept.ensures.value, slots_kept.ensures.more_bound) gather.ensures
     gather-ats-kept first_past.ensures) in record {
       counts = counted turn _
           (counted-past turn c.if-held-k.true
@@ -157,7 +157,7 @@ returns-then-stop-size c =
     let gather = back.gather-m in
     let gather-ats-kept = back.gather-m.auto.ats in
     let back = back in
-    let Slots-kept = back.slots_kept-before in
+    let slots_kept = back.slots_kept-before in
     let back = back in
     let usize-of-u82 = back.usize_of_u8-at in
     let loop = back.loop-held in
@@ -172,7 +172,7 @@ returns-then-stop-size c =
     let walking = back.requires.walking in
     let starts = back.requires.starts in
     let turn =
-    (round loop.invariant starts.frame usize-of-u8.ensures usize-of-u82.ensures pre.segment_lt_n.2 Slots-kept.ensures gather.ensures
+    (round loop.invariant starts.frame usize-of-u8.ensures usize-of-u82.ensures pre.segment_lt_n.2 (slots_kept.ensures.value, slots_kept.ensures.more_bound) gather.ensures
     gather-ats-kept first_past.ensures) in record {
       counts = counted turn _
           (counted-lost turn if1.false (omega (arith, c.if-stop-size.true, usize-of-u8.ensures))
@@ -195,7 +195,7 @@ returns-then-n-g c =
     let gather = back.gather-m in
     let gather-ats-kept = back.gather-m.auto.ats in
     let back = back in
-    let Slots-kept = back.slots_kept-before in
+    let slots_kept = back.slots_kept-before in
     let back = back in
     let usize-of-u82 = back.usize_of_u8-at in
     let loop = back.loop-held in
@@ -210,7 +210,7 @@ returns-then-n-g c =
     let walking = back.requires.walking in
     let starts = back.requires.starts in
     let turn =
-    (round loop.invariant starts.frame usize-of-u8.ensures usize-of-u82.ensures pre.segment_lt_n.2 Slots-kept.ensures gather.ensures
+    (round loop.invariant starts.frame usize-of-u8.ensures usize-of-u82.ensures pre.segment_lt_n.2 (slots_kept.ensures.value, slots_kept.ensures.more_bound) gather.ensures
     gather-ats-kept first_past.ensures) in record {
       counts = counted turn _
           (counted-end turn if1.false (omega (arith, if2.false, usize-of-u8.ensures)) c.if-n-g.true
@@ -238,7 +238,7 @@ loop-held-preserved c =
     let gather = back.gather-m in
     let gather-ats-kept = back.gather-m.auto.ats in
     let back = back in
-    let Slots-kept = back.slots_kept-before in
+    let slots_kept = back.slots_kept-before in
     let usize-of-u82 = back.usize_of_u8-at in
     let back = back in
     let loop = back.loop-held in
@@ -250,7 +250,7 @@ loop-held-preserved c =
     let walking = back.requires.walking in
     let starts = back.requires.starts in
     let turn =
-    (round loop.invariant starts.frame usize-of-u8.ensures usize-of-u82.ensures pre.segment_lt_n.2 Slots-kept.ensures gather.ensures
+    (round loop.invariant starts.frame usize-of-u8.ensures usize-of-u82.ensures pre.segment_lt_n.2 (slots_kept.ensures.value, slots_kept.ensures.more_bound) gather.ensures
     gather-ats-kept first_past.ensures) in
     counting-enter
     (counting-on turn if1.false (omega (arith, if2.false, usize-of-u8.ensures)) refl)

@@ -4,12 +4,12 @@ use Rattle.next.specs.Next.Told.{starts, on-gap, on_go, on-stay, lost-run, lost-
 use Rattle.next.specs.Next.{walks, passed-gap, passed-record}
 use Rattle.walk.specs.Code.Turns.{within, selector-is, here-at, here-whole, here-into, here_end, here-enter}
 use Rattle.walk.specs.Code.{spot_of}
-use lib.ListN.{length-map}
 use Prim.Native.Nat.{◌-◌}
-use mathlib.Core.Logic.{⊎_elim}
-use mathlib.Core.Path.{refl, sym, ap, ◌∙◌}
+use mathlib.Core.Path.{refl, ap, ◌∙◌}
 use native.Mathlib.Omega.{arith}
+use Rattle.std.proofs.Common.{rules}
 use Rattle.next.proofs.next.first_from.Goals as goal
+use Rattle.next.proofs.next.first_from.Goals.{then-here-ne63, else-here-ne63}
 
 pub past_gap-at-requires : goal.past_gap-at-requires
 past_gap-at-requires c =
@@ -285,20 +285,17 @@ returns-then-n-g c =
 
 pub walk-init : goal.walk-init
 walk-init c =
-    let back = c in
-    let if1 = back.if-here-ne63 in
-    let past-gap = back.past_gap-at in
-    let back = back in
-    let args = back.args in
-    let from-good = back.well_formed.1.1.1.1.1.0 in
-    let pre = back.requires in
-    let going = back.requires.going in
+    let past-gap = c.past_gap-at in
+    let pre = c.requires in
+    let going = c.requires.going in
     starts going _
-    args.from
+    c.args.from
     _
-    (⊎_elim (λ w. ap spot_of w.2 ∙ passed-record _ w.0.true w.1.ensures)
-    (λ w. ap spot_of w.1 ∙ passed-gap _ w.0.false past-gap.ensures) if1.branch)
+    (elim c.if-here-ne63.branch [
+      then-here-ne63 w ↦ ap spot_of w.at-is ∙ passed-record _ w.if-here-ne63.true w.past_record-at.ensures
+    | else-here-ne63 w ↦ ap spot_of w.at-is ∙ passed-gap _ w.if-here-ne63.false past-gap.ensures
+    ])
     c.usize_of_u8-s.ensures
     pre.segment_lt_n.0
     pre.segment_lt_n.1
-    (sym (length-map args.from.places _) ∙ from-good.1.1.1.1.0.1.0.1)
+    (search rules)

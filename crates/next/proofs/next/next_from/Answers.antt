@@ -4,10 +4,10 @@ use Rattle.next.specs.Next.{walks, may-named, may-run, may-place, next-passed, n
 use Rattle.answers.specs.Next.{next_told}
 use Rattle.walk.specs.Code.Turns.{within, selector-is}
 use Rattle.walk.specs.Walk.{lost}
-use lib.ListN.{length-map}
 use Prim.Native.Nat.{ℕ}
 use mathlib.Core.Path.{sym, ap, ◌∙◌}
 use native.Mathlib.Omega.{arith}
+use Rattle.std.proofs.Common.{rules}
 use Rattle.next.proofs.next.next_from.Goals as goal
 
 pub overflow_add-v : goal.overflow_add-v
@@ -74,13 +74,12 @@ returns-then-passes c =
     let segment-at = back.segment_at in
     let back = back in
     let args = back.args in
-    let from-good = back.well_formed.1.1.1.1.1.1.0 in
     let pre = back.requires in
     let going = back.requires.going in
     c.first_from.ensures
     ∙ ap
     (next_told _ _)
-    (next-passed going args.from pre.segment_lt_n.0 pre.segment_lt_n.1 (sym (length-map args.from.places _) ∙ from-good.1.1.1.1.0.1.0.1)
+    (next-passed going args.from pre.segment_lt_n.0 pre.segment_lt_n.1 (search rules)
     (selector-is (walks going) args.from.segment.0 args.from.selector segment-at.ensures (omega (arith, usize-of-u8.ensures))
     usize-of-u82.ensures) pre.places_value passes.ensures if1.true)
 
@@ -98,12 +97,11 @@ returns c =
     let segment-at = back.segment_at in
     let back = back in
     let args = back.args in
-    let from-good = back.well_formed.1.1.1.1.1.1.0 in
     let pre = back.requires in
     let going = back.requires.going in
     told-lost _ _
     (ap (λ (k : ℕ). lost args.from.segment.0 k 0) u32-of-u8.ensures
-    ∙ next-lost going args.from pre.segment_lt_n.0 pre.segment_lt_n.1 (sym (length-map args.from.places _) ∙ from-good.1.1.1.1.0.1.0.1)
+    ∙ next-lost going args.from pre.segment_lt_n.0 pre.segment_lt_n.1 (search rules)
     (selector-is (walks going) args.from.segment.0 args.from.selector segment-at.ensures (omega (arith, usize-of-u8.ensures))
     usize-of-u82.ensures) pre.places_value passes.ensures if1.false)
     c.next_refused.ensures
