@@ -1,8 +1,8 @@
 -- `fold::fold` meets its contract: the tests that led to each answer are those of the definition, in its order.
-use mathlib.Core.Logic.{⊎_elim}
 use Rattle.fold.specs.Answers.{answer-frame, answer-low, answer-high, answer-refused, answer-sound, folding-is, leaves-same}
 use mathlib.Core.Path.{sym, ◌∙◌}
 use Rattle.fold.proofs.fold.Goals as goal
+use Rattle.fold.proofs.fold.Goals.{then-i-k+else-k-h, else-i-k}
 
 pub returns-in-Refused : goal.returns-in-Refused
 returns-in-Refused c =
@@ -83,9 +83,9 @@ returns-then-f c =
     let if1 = c.if-f in
     let tray-frame = c.tray_frame-f in
     let args = c.args in record {
-      value = ⊎_elim
-          (λ w. answer-high args.t.now args.a.0 args.b.0 _ tray-frame.ensures if1.true w.0.true w.1.false)
-          (λ w. answer-low args.t.now args.a.0 args.b.0 _ tray-frame.ensures if1.true w.false)
-          c.if-i-k.branch;
+      value = elim c.if-i-k.branch [
+        | then-i-k+else-k-h w ↦ answer-high args.t.now args.a.0 args.b.0 _ tray-frame.ensures if1.true w.if-i-k.true w.if-k-h.false
+        | else-i-k w ↦ answer-low args.t.now args.a.0 args.b.0 _ tray-frame.ensures if1.true w.if-i-k.false
+      ];
       out_after = leaves-same args.t.now args.out.now args.a.0 args.b.0 _;
     }
