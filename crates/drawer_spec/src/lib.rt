@@ -2,7 +2,6 @@
 // laws are in specs/.
 #![tactic(auto)]
 
-
 // How much is kept of the buffer that a line fills, and the length of its answer line.
 #[derive(Clone, Copy)]
 pub struct Held {

@@ -1,0 +1,9 @@
+-- `kanyorith::told::narrow` meets its contract.
+use Rattle.theorems.specs.Wide.{narrow-low, narrow_high}
+use Rattle.kanyorith.proofs.told.narrow.Goals as goal
+
+pub returns-then-n-le255 : goal.returns-then-n-le255
+returns-then-n-le255 c = narrow-low c.if-n-le255.true
+
+pub returns : goal.returns
+returns c = narrow_high c.if-n-le255.false
