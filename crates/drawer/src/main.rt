@@ -3,6 +3,6 @@
 
 use drawer_io::run;
 
-fn main() {
-    run();
+fn main(rt: HostRuntime) {
+    run(rt.stdin());
 }

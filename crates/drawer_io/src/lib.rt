@@ -3,14 +3,15 @@
 // end of what was said. No contract can say what is read or written: that a piece is what was read, and that what left the output was written.
 #![tactic(auto)]
 
-ghost use Rattle.std.specs.Prelude.{◌≡◌, true, length};
+ghost use Rattle.std.specs.Prelude.{◌≡◌, ◌≤◌, true, length, IfSome};
 ghost use Rattle.drawer_serve.specs.Ready.{Buffers, Ready};
 
 use drawer_feed::begin_input;
 use drawer_read::finish;
-use drawer_serve::{Served, serve};
+use drawer_serve::{STDOUT, Served, serve};
 use drawer_spec::Carried;
-use libc::{STDIN_FILENO, STDOUT_FILENO};
+use std::io::Read;
+use std::rt::Stdin;
 
 // The end of the input: the last line, if it has no line feed, and all that is not yet written.
 fn end_input(
@@ -26,11 +27,19 @@ fn end_input(
 {
     let last = finish(carried, line, tray, index, frame, room, output);
     let k = last.filled;
-    io::write_all(STDOUT_FILENO, &output[..k]);
+    io::write_all(STDOUT, &output[..k]);
+}
+
+// One read: how many bytes it brought, which are none at the end of the input, or none where it failed.
+fn read_once(source: &mut Stdin, input: &mut [u8]) -> Option<usize>
+    ensures { IfSome result (λ n. n ≤ length input.new) }
+{
+    source.read(input).ok()
 }
 
 // One read, and what it brings. A read that fails ends the program with what was answered.
 fn read_some(
+    source: &mut Stdin,
     carried: Carried,
     input: &mut [u8],
     line: &mut [u8],
@@ -43,28 +52,28 @@ fn read_some(
     requires { Ready carried line.old tray.old index.old frame.old room.old output.old }
     ensures { (result.open ≡ true) → Ready result.carried line.new tray.new index.new frame.new room.new output.new }
 {
-    let got = libc::read(STDIN_FILENO, input);
-    if got == 0 {
+    let got = read_once(source, input);
+    let Some(n) = got else {
+        let k = carried.filled;
+        io::write_all(STDOUT, &output[..k]);
+        return Served {
+            carried,
+            open: false,
+        };
+    };
+    if n == 0 {
         end_input(carried, line, tray, index, frame, room, output);
         return Served {
             carried,
             open: false,
         };
     }
-    if got < 0 {
-        let k = carried.filled;
-        io::write_all(STDOUT_FILENO, &output[..k]);
-        return Served {
-            carried,
-            open: false,
-        };
-    }
-    let n = io::count(got, input);
     serve(&input[..n], carried, line, tray, index, frame, room, output)
 }
 
 // A proved loop has to end, and nothing says that an input does: so the reads are counted down from a number that no run uses up.
 fn read_all(
+    source: &mut Stdin,
     input: &mut [u8],
     line: &mut [u8],
     tray: &mut [u8],
@@ -78,7 +87,7 @@ fn read_all(
     let mut state = begin_input();
     let mut turns = u64::MAX;
     while turns > 0 {
-        let served = read_some(state, input, line, tray, index, frame, room, output);
+        let served = read_some(source, state, input, line, tray, index, frame, room, output);
         if served.open {
             let next = served.carried;
             state = next;
@@ -132,7 +141,7 @@ fn output_buffer() -> [u8; 262144]
 }
 
 // The program. All it needs stands on the stack, less than half a million bytes.
-pub fn run() {
+pub fn run(mut source: Stdin) {
     let mut input = io::large_buffer();
     let mut line = line_buffer();
     let mut tray = tray_buffer();
@@ -141,6 +150,7 @@ pub fn run() {
     let mut room = room_buffer();
     let mut output = output_buffer();
     read_all(
+        &mut source,
         &mut input,
         &mut line,
         &mut tray,

@@ -8,7 +8,9 @@ ghost use Rattle.drawer_serve.specs.Serves.{Serves};
 
 use drawer_read::take_lines;
 use drawer_spec::Carried;
-use libc::STDOUT_FILENO;
+
+// The standard output.
+pub const STDOUT: i32 = 1;
 
 // What is carried, and whether there is more to do.
 #[derive(Clone, Copy)]
@@ -29,7 +31,7 @@ fn make_room(carried: Carried, output: &[u8]) -> Served
             open: true,
         };
     }
-    let open = io::write_all(STDOUT_FILENO, &output[..k]);
+    let open = io::write_all(STDOUT, &output[..k]);
     let kept = carried.kept;
     Served {
         carried: Carried {
