@@ -26,8 +26,7 @@ use tray::{RunNo, TrayAnswer};
 use tray_check::check_tray;
 
 // Check tray: 0 and the records, or 1, 3 or 2.
-#[unsafe(no_mangle)]
-pub extern "C" fn kanyorith_check_tray(tray: &[u8], figure: &mut u64) -> u32
+pub fn kanyorith_check_tray(tray: &[u8], figure: &mut u64) -> u32
     ensures { CheckTray tray.now result figure.new }
 {
     let a = check_tray(tray);
@@ -41,8 +40,7 @@ pub extern "C" fn kanyorith_check_tray(tray: &[u8], figure: &mut u64) -> u32
 }
 
 // Check index: 0 and the segments, or 1, 3 or 2, 4, 5.
-#[unsafe(no_mangle)]
-pub extern "C" fn kanyorith_check_index(tray: &[u8], index: &[u8], figure: &mut u64) -> u32
+pub fn kanyorith_check_index(tray: &[u8], index: &[u8], figure: &mut u64) -> u32
     ensures { CheckIndex tray.now index.now result figure.new }
 {
     let a = check_index(tray, index);
@@ -56,8 +54,7 @@ pub extern "C" fn kanyorith_check_index(tray: &[u8], index: &[u8], figure: &mut 
 }
 
 // Build: 0 and the bytes written, or 1, 6, 3 or 2, 7.
-#[unsafe(no_mangle)]
-pub extern "C" fn kanyorith_build(tray: &[u8], d: u64, out: &mut [u8], figure: &mut u64) -> u32
+pub fn kanyorith_build(tray: &[u8], d: u64, out: &mut [u8], figure: &mut u64) -> u32
     ensures { Build tray.now d out.old result figure.new out.new }
 {
     let a = build(tray, narrow(d), out);
@@ -71,8 +68,7 @@ pub extern "C" fn kanyorith_build(tray: &[u8], d: u64, out: &mut [u8], figure: &
 }
 
 // Get: 0 and 1 with the value, or 0 and 0 where the key is absent, or 1, 4, 10.
-#[unsafe(no_mangle)]
-pub extern "C" fn kanyorith_get(
+pub fn kanyorith_get(
     tray: &[u8],
     index: &[u8],
     key: &[u8; 8],
@@ -128,8 +124,7 @@ fn hand_over(
 }
 
 // Seek: 0 and 1 with run, place and cursor, or 0 and 0 with the cursor of the end, or 1, 4, 10.
-#[unsafe(no_mangle)]
-pub extern "C" fn kanyorith_seek(
+pub fn kanyorith_seek(
     tray: &[u8],
     index: &[u8],
     key: &[u8; 8],
@@ -144,8 +139,7 @@ pub extern "C" fn kanyorith_seek(
 }
 
 // Next: the same from the cursor on, or 1, 4, 11, 10.
-#[unsafe(no_mangle)]
-pub extern "C" fn kanyorith_next(
+pub fn kanyorith_next(
     tray: &[u8],
     index: &[u8],
     run: &mut u8,
@@ -161,8 +155,7 @@ pub extern "C" fn kanyorith_next(
 
 // Page: 0 and 1 where a record is unwritten, with its cursor, or 0 and 0 with the cursor of the end, or 1, 4, 11, 10; and how many records it
 // wrote.
-#[unsafe(no_mangle)]
-pub extern "C" fn kanyorith_page(
+pub fn kanyorith_page(
     tray: &[u8],
     index: &[u8],
     cursor: &mut [u16; 66],
@@ -193,8 +186,7 @@ pub extern "C" fn kanyorith_page(
 }
 
 // Sheet: 0 and the records listed, or 1, 4, 8, 9, 10, 7.
-#[unsafe(no_mangle)]
-pub extern "C" fn kanyorith_sheet(
+pub fn kanyorith_sheet(
     tray: &[u8],
     index: &[u8],
     prefix: &[u8],
@@ -214,14 +206,7 @@ pub extern "C" fn kanyorith_sheet(
 }
 
 // Fold: 0 and the bytes written, or 1, 8, 3 or 2, 12, 7.
-#[unsafe(no_mangle)]
-pub extern "C" fn kanyorith_fold(
-    tray: &[u8],
-    a: u64,
-    b: u64,
-    out: &mut [u8],
-    figure: &mut u64,
-) -> u32
+pub fn kanyorith_fold(tray: &[u8], a: u64, b: u64, out: &mut [u8], figure: &mut u64) -> u32
     ensures { Fold tray.now a b out.old result figure.new out.new }
 {
     let x = fold(tray, RunNo(narrow(a)), RunNo(narrow(b)), out);
