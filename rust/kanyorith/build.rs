@@ -49,7 +49,7 @@ fn folder() -> Result<PathBuf, String> {
     by_pkg_config(&version).or_else(|| holding(&repository)).ok_or_else(|| {
         format!(
             "{LIBRARY} is missing: KANYORITH_LIB_DIR is not set, pkg-config knows no kanyorith {version}, and {} has none. \
-             In the repository, run `rt staticlib kanyorith` first; elsewhere, set KANYORITH_LIB_DIR to the folder of an \
+             In the repository, run `tools/build library` first; elsewhere, set KANYORITH_LIB_DIR to the folder of an \
              installed {LIBRARY}, or PKG_CONFIG_PATH to that of its kanyorith.pc",
             repository.display()
         )

@@ -10,7 +10,7 @@
 --     sheet-lists                  sheet
 use Rattle.std.proofs.Math.Path.{◌≡◌, refl, sym, ap, ap₂, subst}
 use Rattle.std.proofs.Common.{◌∙◌, ⊎_elim, arith, div-add-mod', length-drop}
-use Rattle.std.specs.Prelude.{ℕ, zero, suc, ◌+◌, ◌-◌, ◌*◌, ◌≤◌, ◌<◌, true, get_or, take, eqb, leb}
+use Rattle.std.specs.Prelude.{ℕ, zero, suc, ◌-◌, ◌*◌, ◌≤◌, ◌<◌, true, get_or, take, eqb, leb}
 use mathlib.Core.List.Memᴰ
 use mathlib.Core.List.{List, [], ◌∷◌, ◌++◌, map, append_assoc, map-append}
 use Rattle.std.proofs.Math.ListN.{length}

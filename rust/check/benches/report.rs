@@ -214,7 +214,7 @@ Before anything is timed, library, hand, heap and map must give the answers and 
 | | |
 |---|---|
 | Machine | {processor}, one thread. Other programs used {others:.0} % of the processors' time during the measurement |
-| Build | library: `rt staticlib kanyorith`; Rust: `cargo bench`, opt-level 3, one codegen unit, no processor-specific flags |
+| Build | library: `tools/build library`; Rust: `cargo bench`, opt-level 3, one codegen unit, no processor-specific flags |
 | Trays | H runs of 4,096 records from fixed seeds; each key is in 1 to 4 runs, 5 % of the records are gone, and a sheet has up to 200 points. For folds of all runs into one: H runs of 4,096 / H records |
 | Requests | get, seek and next: 1,000 keys in random order, and next also tests the cursor that it is given; sheet: 64 sheets in random order |
 | Memory | outputs are allocated and zeroed once, and not cleared between rounds; inputs are as warm as the caches keep them |

@@ -1,5 +1,5 @@
 //! The program `drawer` over a pipe: in one piece, in pieces of one byte, and in pieces that cut lines anywhere, it writes the same, and what
-//! its files say. `rt check drawer drawer_bad` builds it.
+//! its files say. `tools/build drawer drawer_bad` builds it.
 
 use std::fs;
 use std::io::{Read, Write};
@@ -18,7 +18,7 @@ fn answers(input: &[u8], piece: usize) -> Vec<u8> {
         .stdin(Stdio::piped())
         .stdout(Stdio::piped())
         .spawn()
-        .unwrap_or_else(|error| panic!("{}: {error}: run `rt check drawer` first", program.display()));
+        .unwrap_or_else(|error| panic!("{}: {error}: run `tools/build drawer` first", program.display()));
     let mut stdout = child.stdout.take().expect("the output is piped");
     let reader = thread::spawn(move || {
         let mut written = Vec::new();

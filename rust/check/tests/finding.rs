@@ -117,7 +117,7 @@ fn the_library_is_found_in_order() {
     assert!(error.contains("pkg-config knows no kanyorith 0.2.0"), "{error}");
     fs::remove_file(installed.join("libkanyorith.a")).expect("the file was there");
     let Told::Error(error) = run(&[&asking(&knows), &outside]) else { panic!("the library is gone") };
-    for part in ["libkanyorith.a is missing", "elsewhere/rust/kanyorith", "rt staticlib kanyorith", "PKG_CONFIG_PATH"] {
+    for part in ["libkanyorith.a is missing", "elsewhere/rust/kanyorith", "tools/build library", "PKG_CONFIG_PATH"] {
         assert!(error.contains(part), "{error}");
     }
 }

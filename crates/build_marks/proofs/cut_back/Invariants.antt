@@ -1,4 +1,3 @@
-use Prim.Native.Nat.{◌-◌}
 use Rattle.build_marks.specs.Code.Records.{Backing}
 use Rattle.build_marks.proofs.cut_back.Given as goal
 

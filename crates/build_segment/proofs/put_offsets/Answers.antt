@@ -1,9 +1,7 @@
 -- `build_segment::put_offsets` meets its contract. Invariant: the offsets from run r on, written from here, complete them. Measure: the runs
 -- left.
 use Rattle.build_marks.specs.Code.Writes.{offsets-start, offsets-end, offsets-next}
-use Rattle.number.specs.Big.{put}
 use mathlib.Core.Path.{refl, sym, ◌∙◌}
-use Prim.Native.Nat.{◌-◌}
 use native.Mathlib.Omega.{arith}
 use Rattle.build_segment.proofs.put_offsets.Goals as goal
 

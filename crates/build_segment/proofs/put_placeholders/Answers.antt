@@ -1,8 +1,7 @@
 -- `build_segment::put_placeholders` meets its contract. Invariant: the placeholders from byte i on complete them. Measure: the bytes left.
 use Rattle.build_marks.specs.Code.Writes.{holders-end, holders-next}
-use lib.ListN.{length, length-set}
+use lib.ListN.{length-set}
 use mathlib.Core.Path.{refl, sym, ◌∙◌}
-use Prim.Native.Nat.{◌-◌}
 use native.Mathlib.Omega.{arith}
 use Rattle.build_segment.proofs.put_placeholders.Goals as goal
 

@@ -1,5 +1,4 @@
 -- `drawer_feed::line_end` meets its contract. Invariant: no line feed before place i. Measure: the bytes left of the piece.
-use Prim.Native.Nat.{◌-◌}
 use Rattle.drawer_spec.specs.Feed.Code.{seeking-none, seeking-found, seeking-more, seeking-end}
 use native.Mathlib.Omega.{arith}
 use Rattle.drawer_feed.proofs.line_end.Goals as goal

@@ -1,5 +1,5 @@
 -- `drawer_read::take_lines` meets its contract. Invariant: what is carried is what it was, fed with the piece up to place i. Measure: the bytes left.
-use Rattle.std.proofs.Common.{◌-◌, arith}
+use Rattle.std.proofs.Common.{arith}
 use Rattle.drawer_spec.specs.Feed.Code.{taking-none, taking-more, takes-rest, takes-full, rest-rooms}
 use Rattle.drawer_read.proofs.take_lines.Goals as goal
 

@@ -1,5 +1,4 @@
 -- `drawer_serve::serve` meets its contract. Invariant: the piece is taken up to a place, and one more answer line has room. Measure: the bytes left of the piece.
-use Prim.Native.Nat.{◌-◌}
 use mathlib.Core.Path.{refl}
 use Rattle.theory.specs.Tests.{clash}
 use Rattle.drawer_serve.specs.Serves.Laws.{serving-none, serving-more, serving-all, ready-more}

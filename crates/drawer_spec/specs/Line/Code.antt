@@ -5,7 +5,7 @@
 --     index-fits, index_kept, index-refused           02
 --     key-whole, get-value, get-found, get_absent, get_refused    03
 --     sheet-fits, sheet-listed, sheet-refused         04
-use Rattle.std.specs.Prelude.{◌≡◌, refl, ℕ, ◌+◌, ◌-◌, ◌*◌, ◌/◌, ◌%◌, ◌≤◌, ◌<◌, get_or, set, leb}
+use Rattle.std.specs.Prelude.{◌≡◌, refl, ℕ, ◌+◌, ◌*◌, ◌/◌, ◌%◌, ◌≤◌, ◌<◌, get_or, set, leb}
 use Rattle.std.proofs.Math.Path.{sym, ap, subst}
 use Rattle.std.proofs.Common.{ap₂, ◌∙◌, zero-add, div-add-mod', add-one, arith, length-set, length-append, length-take-le, take-suc-set, leb-true}
 use Rattle.std.proofs.Math.Nat.{div-div-eq-div-mul}

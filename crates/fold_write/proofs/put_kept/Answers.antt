@@ -1,7 +1,6 @@
 -- `fold_write::put_kept` meets its contract. Invariant: the records from number j on, written from there, complete the copy. Measure: the
 -- records left.
 use Rattle.fold_write.specs.Write.Writes.{putting-none, putting-more, putting-end, kept-inside}
-use Prim.Native.Nat.{◌-◌}
 use native.Mathlib.Omega.{arith}
 use Rattle.fold_write.proofs.put_kept.Goals as goal
 

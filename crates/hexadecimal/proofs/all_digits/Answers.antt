@@ -1,5 +1,4 @@
 -- `hexadecimal::all_digits` meets its contract. Invariant: the characters from place i on have still to be counted. Measure: these characters.
-use Prim.Native.Nat.{◌-◌}
 use lib.ListN.{get_or}
 use Rattle.hexadecimal.specs.Hex.Code.{counting-none, counting_more, counting-end, fault-low}
 use native.Mathlib.Omega.{arith}

@@ -1,7 +1,7 @@
 -- `hexadecimal::decode` meets its contract. Invariant: the bytes from place i on have still to be written. Measure: these bytes.
 use Rattle.number.specs.Big.{put}
 use mathlib.Core.Path.{ap, ap₂, ◌∙◌}
-use Prim.Native.Nat.{◌+◌, ◌*◌, ◌-◌}
+use Prim.Native.Nat.{◌+◌, ◌*◌}
 use Rattle.hexadecimal.specs.Hex.Laws.{all_digits-at}
 use Rattle.hexadecimal.specs.Hex.Code.{filling-none, filling-more, filling-end, bytes_in-listed}
 use native.Mathlib.Omega.{arith}

@@ -1,6 +1,5 @@
 -- `hexadecimal::encode` meets its contract. Invariant: the digits of the bytes from place i on have still to be written. Measure: these bytes.
-use Prim.Native.Nat.{◌-◌}
-use lib.ListN.{length, length-set}
+use lib.ListN.{length-set}
 use Rattle.hexadecimal.specs.Hex.Code.{spelling-none, spelling-more, spelling-end}
 use native.Mathlib.Omega.{arith}
 use Rattle.hexadecimal.proofs.encode.Goals as goal

@@ -1,6 +1,5 @@
 -- `index_check::check_segments` meets its contract. Invariant: the segments left answer for all of them. Measure: the segments left.
 use mathlib.Core.Path.{sym}
-use Prim.Native.Nat.{◌-◌}
 use Rattle.index.specs.Layout.Code.{segment-within}
 use Rattle.index.specs.Check.Code.{scanning-starts, scanning-on, scanned-wrong, scanned-through, scanned-left}
 use native.Mathlib.Omega.{arith}

@@ -1,5 +1,4 @@
 -- `merge::fill_firsts` meets its contract. Invariant: the firsts of b blocks are kept. Measure: the blocks left.
-use Prim.Native.Nat.{◌-◌}
 use Rattle.merge_lead.specs.Heads.Leads.Laws.{leading-none, leading-more, leading-all}
 use Rattle.merge.proofs.fill_firsts.Goals as goal
 

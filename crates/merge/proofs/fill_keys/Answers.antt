@@ -3,7 +3,6 @@
 use Rattle.merge_lead.specs.Heads.Laws.{found_none, found-more, found_all, next-is, run-cut}
 use lib.ListN.{get_or}
 use mathlib.Core.Path.{refl, ap, ◌∙◌}
-use Prim.Native.Nat.{◌-◌}
 use native.Mathlib.Omega.{arith}
 use Rattle.merge.proofs.fill_keys.Goals as goal
 

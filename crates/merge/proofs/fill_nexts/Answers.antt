@@ -1,6 +1,6 @@
 -- `merge::fill_nexts` meets its contract. Invariant: the keys of the first r runs are found. Measure: the runs left.
 use lib.ListN.{get_or}
-use Prim.Native.Nat.{◌-◌, ◌+◌}
+use Prim.Native.Nat.{◌+◌}
 use mathlib.Core.Path.{refl, ap, ◌∙◌}
 use Rattle.merge_lead.specs.Heads.Leads.Laws.{nexts-none, nexts-more, nexts-all, after_is}
 use Rattle.merge_lead.specs.Heads.Laws.{run-cut}

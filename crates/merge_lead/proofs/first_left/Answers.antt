@@ -1,5 +1,4 @@
 -- `merge_lead::first_left` meets its contract. Invariant: the runs below r are at their end. Measure: the runs left.
-use Prim.Native.Nat.{◌-◌}
 use Rattle.merge_lead.specs.Heads.Leads.Laws.{ended-none, ended-more, left_here, left-none}
 use Rattle.merge_lead.proofs.first_left.Goals as goal
 

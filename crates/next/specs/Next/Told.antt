@@ -5,7 +5,7 @@
 --     told-found, told-lost, told-end  what next tells of the end of the walk
 use Rattle.std.proofs.Math.Path.{◌≡◌, sym, ap, ap₂}
 use Rattle.std.proofs.Common.{◌∙◌, subst, length-set}
-use Rattle.std.specs.Prelude.{ℕ, ◌+◌, ◌-◌, ◌%◌, ◌≤◌, ◌<◌, true, List, length, set}
+use Rattle.std.specs.Prelude.{ℕ, ◌+◌, ◌%◌, ◌≤◌, ◌<◌, true, List, length, set}
 use native.Mathlib.Omega.{arith}
 use Rattle.std.proofs.Math.ListN.{get_or}
 use Rattle.refusal.specs.declared.Refusal.TheVariants.{Lost}

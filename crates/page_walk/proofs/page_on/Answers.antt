@@ -1,7 +1,6 @@
 -- `page_walk::page_on` meets its contract. Invariant of both loops: the page from here on answers for the page from where the loop
 -- began, and the room is the same. Measures: the selectors left, the segments left.
 use mathlib.Core.Path.{◌≡◌, refl, ◌∙◌}
-use Prim.Native.Nat.{◌-◌}
 use lib.ListN.{length}
 use Rattle.walk.specs.Code.Seek.{stays-run, stays-place}
 use Rattle.walk.specs.Code.Turns.{within, selector-is, here_end}

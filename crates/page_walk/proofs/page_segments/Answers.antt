@@ -1,7 +1,6 @@
 -- `page_walk::page_segments` meets its contract. Invariant: the page from here on answers for the page from the cursor, what is written is written
 -- inside the room, and the segment began where it is found again. Measure: the segments left.
 use mathlib.Core.Path.{◌≡◌, refl, sym, ap, ◌∙◌}
-use Prim.Native.Nat.{◌-◌}
 use lib.ListN.{length}
 use Rattle.walk.specs.Reads.{page_visit}
 use Rattle.walk.specs.Code.{length-numbers, numbers-back, length-places, places-room}

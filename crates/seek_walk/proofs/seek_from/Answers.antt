@@ -1,7 +1,6 @@
 -- `seek_walk::seek_from` meets its contract. Invariants: the walk from here answers for the walk from this segment on, and this for the
 -- whole. Measures: the selectors left, the segments left. Each way out is a law of `Code`.
 use mathlib.Core.Path.{refl, ◌∙◌}
-use Prim.Native.Nat.{◌-◌}
 use lib.ListN.{length-set}
 use Rattle.walk.specs.Code.{segments-end, selectors-end, selectors-pass, selectors-lost, selectors-stay, selectors-go, raise-numbers}
 use Rattle.walk.specs.Code.Turns.{here-first, within, selector-is, named-yes, named_past, named-run}

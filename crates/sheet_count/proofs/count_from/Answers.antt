@@ -1,7 +1,6 @@
 -- `sheet_count::count_from` meets its contract. Invariant: sheet's walk stands here with so many records, of which the last are remembered.
 -- Measure: the segments left.
 use mathlib.Core.Path.{◌≡◌, refl, sym, ap, ◌∙◌}
-use Prim.Native.Nat.{◌-◌}
 use lib.ListN.{length}
 use Rattle.walk.specs.Reads.{sheet_visit}
 use Rattle.walk.specs.Code.{numbers-back, length-numbers, length-places, places-room}

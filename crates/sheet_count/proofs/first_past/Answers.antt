@@ -1,6 +1,5 @@
 -- `sheet_count::first_past` meets its contract. Invariant: all keys before this one are below the bound. Measure: the records left.
 use mathlib.Core.Path.{refl}
-use Prim.Native.Nat.{◌-◌}
 use Rattle.list.specs.Stops.Laws.{within-at}
 use Rattle.list.specs.Put.Code.{part-long}
 use Rattle.sheet_count.specs.Count.Code.{seeking-first, seeking-more, past-here, past_end}

@@ -1,6 +1,5 @@
 -- `walk_cursor::none_from` meets its contract.
 use Rattle.walk_cursor.specs.Standing.{none-turn, none_end}
-use Prim.Native.Nat.{◌-◌}
 use mathlib.Core.Path.{refl, ◌∙◌}
 use native.Mathlib.Omega.{arith}
 use Rattle.walk_cursor.proofs.none_from.Goals as goal

@@ -1,5 +1,5 @@
 use mathlib.Core.Path.{◌≡◌}
-use Prim.Native.Nat.{◌≤◌, ◌-◌}
+use Prim.Native.Nat.{◌≤◌}
 use Rattle.index.specs.Scan.Code.{same_to}
 use Rattle.walk_cursor.specs.Standing.{wanted_at}
 use Rattle.walk_cursor.proofs.places_hold.Given as goal

@@ -1,6 +1,5 @@
 -- `walk_cursor::tally` meets its contract.
 use Rattle.walk_cursor.specs.Standing.{tally-none, tally-low, tally-more, tally-all}
-use Prim.Native.Nat.{◌-◌}
 use mathlib.Core.Path.{refl}
 use native.Mathlib.Omega.{arith}
 use Rattle.walk_cursor.proofs.tally.Goals as goal

@@ -1,5 +1,4 @@
 -- `build_take::one::put_run` meets its contract. Invariant: records have been written as far as a place. Measure: the room left.
-use Prim.Native.Nat.{◌-◌}
 use Rattle.build_marks.specs.Code.Only.{only-cut, only-more, only_end}
 use Rattle.build_marks.specs.Code.Records.{putting-none, putting-end, reading-on}
 use native.Mathlib.Omega.{arith}

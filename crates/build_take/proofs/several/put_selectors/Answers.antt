@@ -1,5 +1,4 @@
 -- `build_take::several::put_selectors` meets its contract. Invariant: records have been written as far as a place. Measure: the room left.
-use Prim.Native.Nat.{◌-◌}
 use Rattle.build_marks.specs.Code.Records.{putting-none, putting-more, putting-end, old-low}
 use Rattle.merge_lead.specs.Heads.Leads.Next.{next-run, next-none}
 use native.Mathlib.Omega.{arith}

@@ -1,6 +1,5 @@
 -- `fold_merge::keep::skip_runs` meets its contract. Invariant: the runs so far are read to their ends. Measure: the runs left.
 use Rattle.fold_merge.specs.Folding.Moves.{skips-none, skips-more, skips-all}
-use Prim.Native.Nat.{◌-◌}
 use native.Mathlib.Omega.{arith}
 use Rattle.fold_merge.proofs.keep.skip_runs.Goals as goal
 

@@ -1,7 +1,6 @@
 -- `index_scan::segment::check_first` meets its contract: each way out is a test of the first selector, in its order.
 use Rattle.index.specs.Scan.Code.{trailed}
 use Rattle.index.specs.Scan.Code.Steps.{next-below, begin-reads, begin-not, begin-other, begin-end, begin-past}
-use lib.ListN.{length-set}
 use native.Mathlib.Omega.{arith}
 use Rattle.index_scan.proofs.segment.check_first.Goals as goal
 

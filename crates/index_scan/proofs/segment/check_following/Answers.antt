@@ -1,7 +1,5 @@
 -- `index_scan::segment::check_following` meets its contract. Invariant: the selectors left answer for all of them. Measure: the selectors left.
 use Rattle.index.specs.Scan.Code.{trailed}
-use mathlib.Core.Path.{◌∙◌}
-use Prim.Native.Nat.{◌-◌}
 use Rattle.index.specs.Scan.Code.Follow.{following-starts, following-on, following-lost, following-ended, following-end}
 use Rattle.index_scan.proofs.segment.check_following.Goals as goal
 

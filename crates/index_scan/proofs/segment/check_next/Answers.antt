@@ -1,7 +1,6 @@
 -- `index_scan::segment::check_next` meets its contract: each way out is a test of the selector, in its order.
 use Rattle.index.specs.Scan.Code.{trailed}
 use Rattle.index.specs.Scan.Code.Steps.{next-below, step_is, step-not, step_end, step_past}
-use lib.ListN.{length-set}
 use native.Mathlib.Omega.{arith}
 use Rattle.index_scan.proofs.segment.check_next.Goals as goal
 

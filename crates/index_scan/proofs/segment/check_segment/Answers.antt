@@ -1,7 +1,6 @@
 -- `index_scan::segment::check_segment` meets its contract: the offsets decide, and then the check-selectors.
 use Rattle.index.specs.Scan.Code.Follow.{segment-offsets, segment-scanned}
 use Rattle.index.specs.Scan.Code.{told}
-use mathlib.Core.Path.{refl}
 use native.Mathlib.Omega.{arith}
 use Rattle.index_scan.proofs.segment.check_segment.Goals as goal
 

@@ -1,5 +1,4 @@
 -- `index_scan::segment::only_placeholders` meets its contract. Invariant: the bytes left answer for all. Measure: the bytes left.
-use Prim.Native.Nat.{◌-◌}
 use mathlib.Core.Path.{refl, sym, ◌∙◌}
 use Rattle.index.specs.Scan.Code.{only_end, only_next, only-stop}
 use native.Mathlib.Omega.{arith}

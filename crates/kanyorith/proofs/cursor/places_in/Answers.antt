@@ -1,5 +1,4 @@
 -- `kanyorith::cursor::places_in` meets its contract. Invariant: the first i places are read. Measure: what is left of 63.
-use Prim.Native.Nat.{◌-◌}
 use Rattle.theorems.specs.Cursors.Laws.{in-none, in-more, in_all}
 use native.Mathlib.Omega.{arith}
 use Rattle.kanyorith.proofs.cursor.places_in.Goals as goal

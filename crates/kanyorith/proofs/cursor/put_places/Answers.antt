@@ -1,6 +1,5 @@
 -- `kanyorith::cursor::put_places` meets its contract. Invariant: the first i places are written. Measure: what is left of 63.
 use mathlib.Core.Path.{refl}
-use Prim.Native.Nat.{◌-◌}
 use Rattle.theorems.specs.Cursors.Laws.{out_none, out-more, out-all}
 use native.Mathlib.Omega.{arith}
 use Rattle.kanyorith.proofs.cursor.put_places.Goals as goal

@@ -1,6 +1,5 @@
 -- `limits_tell::fill::fill_head` stays within the tray and ends. Invariant: the tray has its length. Measure: the bytes left of the head.
-use Prim.Native.Nat.{◌-◌}
-use lib.ListN.{length, length-set}
+use lib.ListN.{length-set}
 use native.Mathlib.Omega.{arith}
 use Rattle.limits_tell.proofs.fill.fill_head.Goals as goal
 

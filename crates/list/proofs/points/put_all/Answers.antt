@@ -1,6 +1,5 @@
 -- `list::points::put_all` meets its contract. Invariant: the first `i` records are written. Measure: the records left.
 use mathlib.Core.Path.{refl}
-use Prim.Native.Nat.{◌-◌}
 use Rattle.list.specs.Stops.Laws.{within-at}
 use Rattle.list.specs.Put.Code.{putting-first, putting-more, putting-all, part-long}
 use native.Mathlib.Omega.{arith}

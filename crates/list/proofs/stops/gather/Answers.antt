@@ -1,7 +1,6 @@
 -- `list::stops::gather` meets its contract. Invariant: what is gathered, with what is still to come, is all that is to be gathered. Measure: the
 -- selectors left.
 use mathlib.Core.Path.{refl, ◌∙◌}
-use Prim.Native.Nat.{◌-◌}
 use Rattle.tray.specs.Frame.Code.{cut}
 use Rattle.walk.specs.Code.{length-places, places-room}
 use Rattle.walk.specs.Code.Turns.{within, selector-is}

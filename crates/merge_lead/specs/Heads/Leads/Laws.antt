@@ -16,7 +16,7 @@ use Rattle.index.specs.Scan.{raise}
 use Rattle.index.specs.Scan.Code.{Reading}
 use Rattle.merge_lead.specs.declared.Lead.{Lead}
 use Rattle.merge_lead.specs.Heads.{highest, key_or, next_key, Padded}
-use Rattle.merge_lead.specs.Heads.Leads.{First, Half, Topped, Kept, Leading, Nexts, Heading, FirstLeft, left}
+use Rattle.merge_lead.specs.Heads.Leads.{First, Half, Topped, Kept, Leading, Nexts, Heading, FirstLeft}
 
 module _ (keys : List ℕ) where
   pub first_one : {i r : ℕ} → i ≡ r → First keys r (r + 1) (get_or keys i 0) r

@@ -4,7 +4,6 @@ use Rattle.next.specs.Next.Told.{starts, on-gap, on_go, on-stay, lost-run, lost-
 use Rattle.next.specs.Next.{walks, passed-gap, passed-record}
 use Rattle.walk.specs.Code.Turns.{within, selector-is, here-at, here-whole, here-into, here_end, here-enter}
 use Rattle.walk.specs.Code.{spot_of}
-use Prim.Native.Nat.{◌-◌}
 use mathlib.Core.Path.{refl, ap, ◌∙◌}
 use native.Mathlib.Omega.{arith}
 use Rattle.std.proofs.Common.{rules}
@@ -292,8 +291,8 @@ walk-init c =
     c.args.from
     _
     (elim c.if-here-ne63.branch [
-      then-here-ne63 w ↦ ap spot_of w.at-is ∙ passed-record _ w.if-here-ne63.true w.past_record-at.ensures
-    | else-here-ne63 w ↦ ap spot_of w.at-is ∙ passed-gap _ w.if-here-ne63.false past-gap.ensures
+      | then-here-ne63 w ↦ ap spot_of w.at-is ∙ passed-record _ w.if-here-ne63.true w.past_record-at.ensures
+      | else-here-ne63 w ↦ ap spot_of w.at-is ∙ passed-gap _ w.if-here-ne63.false past-gap.ensures
     ])
     c.usize_of_u8-s.ensures
     pre.segment_lt_n.0

@@ -1,5 +1,4 @@
 -- `sheet::bounds::filled` meets its contract. Invariant: the first i bytes are copied. Measure: what is left of the prefix.
-use Prim.Native.Nat.{◌-◌}
 use Rattle.sheet.specs.Bounds.{filling-none, filling-more, filling-end}
 use native.Mathlib.Omega.{arith}
 use Rattle.sheet.proofs.bounds.filled.Goals as goal

@@ -2,7 +2,7 @@
 -- Measure: the runs left.
 use Rattle.tray.specs.Frame.Code.{read-counts-none, read-counts-more, read-counts-over, read-counts-all}
 use lib.ListN.{replicate}
-use Prim.Native.Nat.{ℕ, ◌+◌, ◌*◌, ◌-◌}
+use Prim.Native.Nat.{ℕ, ◌+◌, ◌*◌}
 use mathlib.Core.Path.{refl, ap}
 use native.Mathlib.Omega.{arith}
 use Rattle.tray.proofs.frame.read_counts.Goals as goal

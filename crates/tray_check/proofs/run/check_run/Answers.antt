@@ -3,7 +3,6 @@
 use Rattle.tray.specs.Run.Code.{last-next, run-kind, run-key, run-next, run-live, last_none}
 use Rattle.tray.specs.Run.Laws.{judge-end}
 use native.Mathlib.Nat.{sub-zero}
-use Prim.Native.Nat.{◌-◌}
 use mathlib.Core.Path.{refl, sym, ◌∙◌}
 use Rattle.std.proofs.Common.{rules}
 use Rattle.tray_check.proofs.run.check_run.Goals as goal

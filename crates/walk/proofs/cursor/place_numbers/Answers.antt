@@ -1,5 +1,4 @@
 -- `walk::cursor::place_numbers` meets its contract.
-use Prim.Native.Nat.{◌-◌}
 use Rattle.walk.specs.Code.Numbers.{copy-none, copy_more, copy-end}
 use native.Mathlib.Omega.{arith}
 use Rattle.walk.proofs.cursor.place_numbers.Goals as goal

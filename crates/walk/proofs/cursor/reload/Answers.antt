@@ -1,6 +1,5 @@
 -- `walk::cursor::reload` meets its contract. Invariants: the first numbers are cleared; then as for `load`. Measures: the numbers left; r.
-use mathlib.Core.Path.{refl, sym, ◌∙◌}
-use Prim.Native.Nat.{◌-◌}
+use mathlib.Core.Path.{refl}
 use Rattle.walk.specs.Code.{places-room}
 use Rattle.walk.specs.Code.Load.{clearing-none, clearing-more, clearing-all, reloading-more, reloading-end}
 use native.Mathlib.Omega.{arith}

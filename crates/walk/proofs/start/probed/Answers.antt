@@ -1,6 +1,5 @@
 -- `walk::start::probed` meets its contract. Invariant: the segments left to probe, with as many probes as are enough, answer for all.
 -- Measure: the segments left.
-use Prim.Native.Nat.{◌-◌}
 use Rattle.walk.specs.Start.Code.{probes-start, probes-above, probes-below, probes-end, anchor-inside}
 use native.Mathlib.Omega.{arith}
 use Rattle.walk.proofs.start.probed.Goals as goal

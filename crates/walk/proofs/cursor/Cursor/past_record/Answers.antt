@@ -1,6 +1,5 @@
 -- `walk::cursor::Cursor::past_record` meets its contract.
-use Rattle.walk.specs.Code.Moves.{moved-record, same_place}
-use native.Mathlib.Omega.{arith}
+use Rattle.walk.specs.Code.Moves.{moved-record}
 use Rattle.walk.proofs.cursor.Cursor.past_record.Goals as goal
 
 pub returns : goal.returns
