@@ -14,17 +14,17 @@ use mathlib.Core.List.{List, [], ◌∷◌, ◌++◌, append_assoc}
 use Rattle.std.proofs.Math.ListN.{length}
 use borrow.Author.Tests.{le-leb, lt-leb}
 use Rattle.number.specs.Big.{bytes_of, put, Bytes}
-use Rattle.number.specs.Big.Laws.{length-bytes_of}
-use Rattle.number.specs.Big.Writes.{put-sets, put-put}
+use Rattle.number.proofs.Big.Laws.{length-bytes_of}
+use Rattle.number.proofs.Big.Writes.{put-sets, put-put}
 use Rattle.refusal.specs.declared.Refusal.{Refusal}
 use Rattle.refusal.specs.declared.Refusal.TheVariants.{TrayFrame as FrameRefusal, SegmentSize, Room}
 use Rattle.theory.specs.Records.{Record}
 use Rattle.tray.specs.declared.TrayAnswer.TheVariants.{Records, Refused as TrayRefused}
 use Rattle.tray.specs.declared.frame.TrayFrame.{TrayFrame}
 use Rattle.tray.specs.Frame.{run_count, framed, Framing}
-use Rattle.tray.specs.Frame.Code.{opened}
+use Rattle.tray.proofs.FrameCode.{opened}
 use Rattle.tray.specs.Check.{check_tray_answer}
-use Rattle.tray.specs.Check.Theorems.{answers-records}
+use Rattle.tray.proofs.Check.Theorems.{answers-records}
 use Rattle.tray.specs.Meaning.{runs_of}
 use Rattle.tray.specs.Meaning.Laws.{length-runs_of}
 use Rattle.tray.specs.Meaning.Back.{total-runs_of}
@@ -33,8 +33,8 @@ use Rattle.index.specs.Layout.Code.{segment_at-le}
 use Rattle.build_spec.specs.declared.BuildAnswer.{BuildAnswer}
 use Rattle.build_spec.specs.declared.BuildAnswer.TheVariants.{Written, Refused}
 use Rattle.build_spec.specs.Build.{cuts, segments_bytes, index_bytes, index_size, size_fits, after_check, build_answer, build_leaves}
-use Rattle.build_spec.specs.Build.Bytes.{total-short}
-use Rattle.build_spec.specs.Build.Theorems.{built-most}
+use Rattle.build_spec.proofs.Build.Bytes.{total-short}
+use Rattle.build_spec.proofs.Build.Theorems.{built-most}
 use Rattle.build_marks.specs.Code.{Sounded}
 use Rattle.build_marks.specs.Code.Writes.{put-before}
 use Rattle.build_segment.specs.Segment.Loops.{sounded-fits}

@@ -8,7 +8,7 @@ use Rattle.std.specs.Prelude.{◌≡◌, refl, ℕ, zero, suc, ◌+◌, ◌≤�
 use Rattle.std.proofs.Common.{sym, ap, ◌∙◌, arith, length-append, take_all, length-take-le, eqb-true, leb-true, leb-false}
 use Rattle.std.proofs.lemmas.Bool.{eqb-false}
 use Rattle.number.specs.Big.{bytes_of, Bytes}
-use Rattle.number.specs.Big.Laws.{length-bytes_of, bytes-bytes_of, bytes-cons, bytes-append}
+use Rattle.number.proofs.Big.Laws.{length-bytes_of, bytes-bytes_of, bytes-cons, bytes-append}
 use Rattle.refusal.specs.declared.Refusal.{Refusal}
 use Rattle.refusal.specs.declared.Refusal.TheVariants.{TrayFrame, KeyOrder, RecordKind, IndexFrame, Segment, SegmentSize, Room, Bounds, PrefixEnd, Lost, Cursor, RunLength}
 use Rattle.refusal.specs.Table.{verdict_of}
@@ -22,16 +22,16 @@ use Rattle.tray.specs.Meaning.{runs_of}
 use Rattle.build_spec.specs.declared.BuildAnswer.{BuildAnswer}
 use Rattle.build_spec.specs.declared.BuildAnswer.TheVariants.{Written, Refused as BuildRefused}
 use Rattle.build_spec.specs.Build.{build_answer, index_bytes}
-use Rattle.build_spec.specs.Build.Answers.{build-written}
-use Rattle.build_spec.specs.Build.Bytes.{length-index_bytes, bytes-index_bytes}
-use Rattle.build_spec.specs.Build.Theorems.{sound-ready}
+use Rattle.build_spec.proofs.Build.Answers.{build-written}
+use Rattle.build_spec.proofs.Build.Bytes.{length-index_bytes, bytes-index_bytes}
+use Rattle.build_spec.proofs.Build.Theorems.{sound-ready}
 use Rattle.answers.specs.declared.ValueAnswer.{ValueAnswer}
 use Rattle.answers.specs.declared.GetAnswer.{GetAnswer}
 use Rattle.answers.specs.declared.GetAnswer.TheVariants.{Found, Absent, Refused as GetRefused}
 use Rattle.answers.specs.Get.{get_answer, get_framed, got_told, refused_get}
 use Rattle.answers.specs.Seek.Hands.{in-frames}
 use Rattle.walk.specs.Reads.{Got, value, absent, get-lost, get, listed_bytes, sheet}
-use Rattle.walk.specs.Reads.Page.{listing, length-listing}
+use Rattle.walk.proofs.ReadsLaws.Page.{listing, length-listing}
 use Rattle.answers.specs.declared.SheetAnswer.{SheetAnswer}
 use Rattle.answers.specs.declared.SheetAnswer.TheVariants.{Listed, Refused as SheetRefused}
 use Rattle.answers.specs.Sheet.{records_of, sheet_answer}

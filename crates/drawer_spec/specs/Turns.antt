@@ -11,7 +11,7 @@ use Rattle.std.proofs.Math.Bool.{true, false}
 use Rattle.std.proofs.Math.ListN.{get_or}
 use borrow.Author.Tests.{eq-eqb, ne_eqb, le-leb, lt-leb, leb-true, eqb-true}
 use Rattle.number.specs.Big.{put}
-use Rattle.number.specs.Big.Writes.{length-put, take_put}
+use Rattle.number.proofs.Big.Writes.{length-put, take_put}
 use Rattle.theory.specs.Tests.{cases, and_left, and_right}
 use Rattle.tray.specs.declared.TrayAnswer.{TrayAnswer}
 use Rattle.tray.specs.declared.TrayAnswer.TheVariants.{Records, Refused as TrayRefused}

@@ -18,20 +18,20 @@ use Rattle.theory.specs.Rising.{Mem}
 use Rattle.theory.specs.Records.{Record, SoundRecord}
 use Rattle.theory.specs.Hiding.{same_key}
 use Rattle.theory.specs.Merge.{fold}
-use Rattle.theory.specs.Merge.Chains.{fold_same}
+use Rattle.theory.proofs.Merge.Chains.{fold_same}
 use Rattle.tray.specs.declared.TrayAnswer.TheVariants.{Records, Refused as TrayRefused}
 use Rattle.tray.specs.declared.frame.TrayFrame.{TrayFrame}
 use Rattle.tray.specs.Frame.{run_count, framed, Framing}
-use Rattle.tray.specs.Frame.Code.{opened}
+use Rattle.tray.proofs.FrameCode.{opened}
 use Rattle.tray.specs.Check.{check_tray_answer}
-use Rattle.tray.specs.Check.Theorems.{answers-records}
+use Rattle.tray.proofs.Check.Theorems.{answers-records}
 use Rattle.tray.specs.Meaning.{runs_of}
 use Rattle.tray.specs.Meaning.Laws.{length-runs_of, runs-good}
 use Rattle.tray.specs.Meaning.Back.{fits-runs}
 use Rattle.fold_spec.specs.declared.FoldAnswer.{FoldAnswer}
 use Rattle.fold_spec.specs.declared.FoldAnswer.TheVariants.{Written, Refused}
 use Rattle.fold_spec.specs.Fold.{key_of, folded_run, folded_runs, fold_bytes, fold_size, bounds_hold, after_check, fold_answer, fold_leaves}
-use Rattle.fold_spec.specs.Fold.Laws.{key_rule, length-fold_bytes, fold-copies}
+use Rattle.fold_spec.proofs.Fold.Laws.{key_rule, length-fold_bytes, fold-copies}
 use Rattle.fold_merge.specs.Folding.{Folding, Noted, merged_run}
 use Rattle.fold_write.specs.Write.{sound_answer}
 

@@ -2,7 +2,6 @@
 --     tray-.., index-.., build-.., get-.., sheet-.., fold-..     by the call
 --     sought-.., seek-is, next-is                                seek and next
 --     page-..                                                    page
-pub mod Narrow
 use Rattle.std.specs.Prelude.{◌≡◌, refl, ℕ, List, length}
 use Rattle.std.proofs.Common.{sym, ap₂, ◌∙◌}
 use Rattle.std.proofs.Math.Path.{ap}

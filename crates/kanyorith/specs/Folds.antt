@@ -10,10 +10,10 @@ use Rattle.refusal.specs.declared.Verdict.{Verdict}
 use Rattle.theory.specs.Tests.{cases, never}
 use Rattle.tray.specs.Frame.{run_count}
 use Rattle.tray.specs.Check.{check_tray_answer, Sound}
-use Rattle.tray.specs.Check.Theorems.{answers-records}
+use Rattle.tray.proofs.Check.Theorems.{answers-records}
 use Rattle.tray.specs.Meaning.{runs_of}
 use Rattle.fold_spec.specs.Fold.{folded_run, fold_answer, fold_leaves, Calls, no_call, call}
-use Rattle.fold_spec.specs.Fold.Laws.{InBounds}
+use Rattle.fold_spec.proofs.Fold.Laws.{InBounds}
 use Rattle.theorems.specs.Unchanged.{Folded}
 use Rattle.theorems.specs.Told.Laws.{tray-zero, index-zero, fold-zero}
 use Rattle.kanyorith.specs.Promises.{CheckTray, Fold}

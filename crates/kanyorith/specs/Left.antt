@@ -8,7 +8,7 @@ use Rattle.std.proofs.Common.{sym, ◌∙◌, zero-le, zero-add, arith}
 use Rattle.std.specs.Prelude.{ℕ, ◌+◌, ◌*◌, ◌≤◌, ◌<◌, Bool, cond, List, drop}
 use Rattle.std.proofs.Math.Bool.{true, false}
 use Rattle.std.proofs.Math.ListN.{length}
-use Rattle.number.specs.Big.Writes.{length-put, drop-put}
+use Rattle.number.proofs.Big.Writes.{length-put, drop-put}
 use Rattle.refusal.specs.declared.Refusal.{Refusal}
 use Rattle.refusal.specs.declared.Refusal.TheVariants.{TrayFrame, IndexFrame, Cursor as NotBelonging}
 use Rattle.refusal.specs.declared.Verdict.{Verdict}
@@ -20,7 +20,7 @@ use Rattle.index.specs.Layout.{index_framed}
 use Rattle.walk.specs.declared.cursor.Cursor.{Cursor}
 use Rattle.walk.specs.Walk.{Spot, Walked, stayed, ended, lost}
 use Rattle.walk.specs.Reads.{Written, belongs, page, sheet}
-use Rattle.walk.specs.Reads.Page.{listing, length-listing}
+use Rattle.walk.proofs.ReadsLaws.Page.{listing, length-listing}
 use Rattle.walk.specs.Code.{spot_of}
 use Rattle.answers.specs.Quick.{in_frames}
 use Rattle.answers.specs.declared.PagedAnswer.{PagedAnswer}
@@ -28,7 +28,7 @@ use Rattle.answers.specs.Page.{refused_page, page_told as page_by, page_left, pa
 use Rattle.answers.specs.Sheet.{records_of, sheet_answer, sheet_leaves}
 use Rattle.theorems.specs.Told.{page_told, sheet_told}
 use Rattle.theorems.specs.Told.Laws.{refused-above, sheet-zero}
-use Rattle.theorems.specs.Exactly.Quick.{Lists, to-bound, to_end, SheetSays, sheet-1, sheet-4, sheet-8, sheet-9, sheet-10, sheet-7, sheet-0, sheet-exactly}
+use Rattle.theorems.proofs.Exactly.Quick.{Lists, to-bound, to_end, SheetSays, sheet-1, sheet-4, sheet-8, sheet-9, sheet-10, sheet-7, sheet-0, sheet-exactly}
 use Rattle.kanyorith.specs.Walks.{Ends, at-stay, at-end, at-loss, Kept, Filled, page-holds}
 
 module _ (t x : List ℕ) (c : Cursor) (out : List ℕ) where

@@ -21,7 +21,7 @@ use Rattle.refusal.specs.Table.{told}
 use Rattle.theory.specs.Lists.{here}
 use Rattle.theory.specs.Records.{Record}
 use Rattle.theory.specs.Rising.{Mem, keep}
-use Rattle.theory.specs.Rising.Kept.{keep-mem}
+use Rattle.theory.proofs.Rising.Kept.{keep-mem}
 use Rattle.theory.specs.Tests.{split, never}
 use Rattle.tray.specs.Frame.{run_count, run_bytes}
 use Rattle.tray.specs.Run.{record_at}
@@ -43,8 +43,8 @@ use Rattle.walk.specs.Reads.Next.{next-is, next-spots, next-gap, next-end}
 use Rattle.walk.specs.Reads.From.{from_on}
 use Rattle.walk.specs.Reads.Belongs.{stop-belongs, belongs-standing}
 use Rattle.walk.specs.Reads.Standing.{Standing, at-stop, at_gap, at-end as standing-end, standing_on}
-use Rattle.walk.specs.Reads.Page.{listing, page-is}
-use Rattle.walk.specs.Reads.Pages.{paged-lost, pages-are as paged-are}
+use Rattle.walk.proofs.ReadsLaws.Page.{listing, page-is}
+use Rattle.walk.proofs.ReadsLaws.Pages.{paged-lost, pages-are as paged-are}
 use Rattle.walk.specs.Walk.{Spot, Walked, ended, lost}
 use Rattle.walk.specs.Reads.Seek.{lookup, points, is_from, from, seek_is, shown-shows}
 use Rattle.answers.specs.Quick.{cursor_of}
@@ -60,7 +60,7 @@ use Rattle.answers.specs.Sheet.{prefix_long, prefix_last, listed_in, sheet_answe
 use Rattle.theorems.specs.Paged.{PageCalls, last-page, page-then, calls-pages, pages-from}
 use Rattle.theorems.specs.Read.{onward, get-answers, fits-frames, onward-are, prefixed, sheet_of, sheet-answers, sheet-records}
 use Rattle.theorems.specs.Told.{get_told, seek_told, page_told, sheet_told}
-use Rattle.theorems.specs.Exactly.Quick.{NextSays, next-1, next-4, next-11, next-10, next-found, next-end as next-end-0, next-exactly, PageSays, page-1, page-4, page-11, page-10, page-more as page-more-1, page-end as page-end-0, page-exactly}
+use Rattle.theorems.proofs.Exactly.Quick.{NextSays, next-1, next-4, next-11, next-10, next-found, next-end as next-end-0, next-exactly, PageSays, page-1, page-4, page-11, page-10, page-more as page-more-1, page-end as page-end-0, page-exactly}
 use Rattle.theorems.specs.Told.Laws.{not-zero, index-zero, page-more, page-end}
 use Rattle.kanyorith.specs.Promises.{CheckIndex, value_left, Get, run_left, place_left, cursor_left, Sought, Seek, Next, page_cursor_left, Page, Sheet}
 

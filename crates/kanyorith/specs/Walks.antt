@@ -7,7 +7,7 @@ use Rattle.std.specs.Prelude.{◌≡◌, refl, List, length, drop, eqb, leb, ltb
 use Rattle.std.proofs.Common.{sym, ap, ◌∙◌, arith, drop-drop, leb-true, leb-false}
 use Rattle.std.proofs.Math.Path.{subst}
 use Prim.Native.Nat.{ℕ, zero, suc, ◌+◌, ◌-◌, ◌*◌, ◌≤◌, ◌<◌, zero-le}
-use Rattle.number.specs.Big.Writes.{length-put, drop-put}
+use Rattle.number.proofs.Big.Writes.{length-put, drop-put}
 use Rattle.theory.specs.Records.{Record}
 use Rattle.theory.specs.Tests.{split}
 use Rattle.tray.specs.Frame.{run_count}
@@ -16,7 +16,7 @@ use Rattle.index.specs.Scan.{run_in, raise}
 use Rattle.walk.specs.Walk.{Spot, Visit, stay, go, Walked, stayed, ended, lost, selector_at, loaded, named, walk_selectors, walk_segments, walk_from}
 use Rattle.walk.specs.Code.{after-visit, one-selector}
 use Rattle.walk.specs.Reads.{Written, listed_bytes, write, record_by, unmarked, page_visit, page}
-use Rattle.walk.specs.Reads.Page.{length-listed}
+use Rattle.walk.proofs.ReadsLaws.Page.{length-listed}
 
 -- a visit that keeps Q, or stays with P
 pub data Visited {S R : Type 0} (Q : S → Type 0) (P : R → Type 0) : Visit S R → Type 0 where

@@ -19,7 +19,7 @@ use Rattle.std.proofs.Math.Dec.{ltb}
 use borrow.Author.Tests.{lt-ltb, le-ltb, eq-eqb, ne_eqb, eqb-true, eqb-false, ltb-true}
 use Rattle.theory.specs.Tests.{cases, clash, never, and_left, and_right}
 use Rattle.theory.specs.Listed.{listed}
-use Rattle.theory.specs.Listed.Laws.{length-listed}
+use Rattle.theory.proofs.Listed.Laws.{length-listed}
 use Rattle.tray.specs.declared.Place.{Place}
 use Rattle.tray.specs.declared.frame.TrayFrame.{TrayFrame}
 use Rattle.tray.specs.Frame.{run_count, count_of, start_of, Opened}

@@ -3,3 +3,5 @@
 pub mod Known
 -- what stores of a number's bytes leave
 pub mod Stored
+-- what follows from `specs/Big.antt`
+pub mod Big

@@ -9,8 +9,8 @@ use native.Mathlib.Omega.{arith}
 use lib.ListN.{length}
 use lib.Seq.{sets}
 use Rattle.number.specs.Big.{bytes_of, put}
-use Rattle.number.specs.Big.Laws.{length-bytes_of, bytes_of-high}
-use Rattle.number.specs.Big.Writes.{put-sets}
+use Rattle.number.proofs.Big.Laws.{length-bytes_of, bytes_of-high}
+use Rattle.number.proofs.Big.Writes.{put-sets}
 
 -- bytes stored one by one
 pub stored : (s : List ℕ) (p w n : ℕ) {ys : List ℕ}

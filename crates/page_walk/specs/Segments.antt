@@ -14,7 +14,7 @@ use Rattle.std.proofs.lemmas.List.{length-map}
 use Rattle.std.proofs.Math.Seq.{length-take-le}
 use borrow.Author.Tests.{le-leb, eq-eqb, ne_eqb}
 use Rattle.number.specs.Big.{put}
-use Rattle.number.specs.Big.Writes.{length-put}
+use Rattle.number.proofs.Big.Writes.{length-put}
 use Rattle.theory.specs.Lists.{here, all_tail}
 use Rattle.theory.specs.Records.{Record}
 use Rattle.theory.specs.Rising.{All}
@@ -24,7 +24,7 @@ use Rattle.tray.specs.Run.{record_from}
 use Rattle.walk.specs.Walk.{Spot, Visit, go, Walked, lost, walk_selectors, walk_segments, walk_from}
 use Rattle.walk.specs.Walk.Tours.{after, tour_then}
 use Rattle.walk.specs.Reads.{Written, listed_bytes, write, unmarked, page_visit}
-use Rattle.walk.specs.Reads.Page.{length-listed}
+use Rattle.walk.proofs.ReadsLaws.Page.{length-listed}
 use Rattle.index.specs.Layout.{segment_at}
 use Rattle.walk.specs.declared.cursor.Cursor.{Cursor}
 use Rattle.walk.specs.Code.{numbers, places_of, numbers-back, Walking, spot_of}

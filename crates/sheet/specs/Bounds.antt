@@ -8,7 +8,7 @@ use Rattle.std.proofs.lemmas.List.{length-replicate, set_at}
 use Rattle.std.proofs.Math.ListN.{get_or-append}
 use Rattle.std.proofs.Math.Seq.{append_snoc}
 use Rattle.number.specs.Big.{be}
-use Rattle.number.specs.Big.Laws.{be-same, be-add}
+use Rattle.number.proofs.Big.Laws.{be-same, be-add}
 use Rattle.walk.specs.Reads.{low_key, high_key}
 
 -- the first i bytes of the prefix are copied

@@ -17,7 +17,7 @@ use Rattle.refusal.specs.declared.Refusal.TheVariants.{Bounds, PrefixEnd}
 use Rattle.theory.specs.Lists.{here}
 use Rattle.theory.specs.Records.{Record}
 use Rattle.theory.specs.Rising.{All, keep}
-use Rattle.theory.specs.Rising.Kept.{keep-mem}
+use Rattle.theory.proofs.Rising.Kept.{keep-mem}
 use Rattle.tray.specs.Frame.{run_count, run_bytes}
 use Rattle.tray.specs.Frame.Laws.{fits-framed}
 use Rattle.tray.specs.Run.{record_at}
@@ -30,7 +30,7 @@ use Rattle.walk.specs.Walk.Tours.{first_of}
 use Rattle.walk.specs.Reads.{low_key, high_key, sheet}
 use Rattle.walk.specs.Reads.Kept.{keep-map}
 use Rattle.walk.specs.Reads.Shown.{found_at, point_of, shown, Shows, shown-merged}
-use Rattle.walk.specs.Reads.Sheet.{Lists, to-bound, to_end, within, sheet-is}
+use Rattle.walk.proofs.ReadsLaws.Sheet.{Lists, to-bound, to_end, within, sheet-is}
 use Rattle.walk.specs.Reads.Seek.{is_from, from, lookup, points, seek_is, get-is, shown-shows}
 use Rattle.answers.specs.declared.SheetAnswer.{SheetAnswer}
 use Rattle.answers.specs.declared.SheetAnswer.TheVariants.{Refused as SheetRefused}

@@ -20,15 +20,15 @@ use Rattle.walk.specs.Walk.Spots.{Reading, check-reading}
 use Rattle.walk.specs.Reads.Shown.{point_of}
 use Rattle.walk.specs.Reads.Seek.{from, lookup, points}
 use Rattle.walk.specs.Reads.{low_key, high_key}
-use Rattle.walk.specs.Reads.Page.{listing}
-use Rattle.walk.specs.Reads.Sheet.{within}
+use Rattle.walk.proofs.ReadsLaws.Page.{listing}
+use Rattle.walk.proofs.ReadsLaws.Sheet.{within}
 use Rattle.answers.specs.Seek.{seek_answer}
 use Rattle.answers.specs.Get.{got_told, get_answer}
 use Rattle.answers.specs.declared.SheetAnswer.{SheetAnswer}
 use Rattle.answers.specs.declared.SheetAnswer.TheVariants.{Listed, Refused}
 use Rattle.answers.specs.Sheet.{sheet_answer, sheet_leaves}
 use Rattle.fold_spec.specs.Fold.{Calls}
-use Rattle.fold_spec.specs.Fold.Chains.{calls-visible}
+use Rattle.fold_spec.proofs.Fold.Chains.{calls-visible}
 use Rattle.theorems.specs.Read.{point_at, first_point, onward, onward-are, get-answers, seek-answers, prefixed, sheet_of, sheet-answers, sheet-records}
 use Rattle.theorems.specs.Paged.{PageCalls, pages-from}
 

@@ -1,6 +1,5 @@
 -- Which newer record hides which older one (docs/RULES.md, "The sorted view": a record is old when a lower-numbered run has its key).
 -- A rule is a test with two laws, and whatever holds over any rule is proved over any rule.
-pub mod Laws
 use Rattle.std.specs.Prelude.{ℕ, ◌≡◌, Bool, true, eqb}
 
 -- a rule over the records that are `Ok`: equal keys hide, and what hides a record hides all that this one hides

@@ -1,10 +1,5 @@
 -- Runs of records merged (docs/RULES.md, "The sorted view" and "Folding"): one over another, all of a tray, neighbours folded, chains of folds.
 -- A tray is a list of runs, newest first; a run is a list of records.
-pub mod Hidden
-pub mod Laws
-pub mod Chains
-pub mod Nothing
-mod Cases
 use Rattle.std.specs.Prelude.{ℕ, suc, ◌-◌, ◌≤◌, ◌<◌, Bool, not, List, [], ◌∷◌, ◌++◌, length, take, drop}
 use Rattle.theory.specs.Rising.{All, Rises, any, keep, insert_all}
 

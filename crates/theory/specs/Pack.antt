@@ -1,8 +1,5 @@
 -- Versions of a key kept together, and such groups packed into segments (docs/RULES.md, "The index": our builder puts a key's versions
 -- into the current segment if all fit and else opens a new one).
-mod Cases
-pub mod Groups
-pub mod Laws
 use Rattle.std.specs.Prelude.{ℕ, ◌+◌, ◌≡◌, cond, List, [], ◌∷◌, ◌++◌, length, eqb, leb}
 use Rattle.theory.specs.Rising.{All}
 

@@ -1,11 +1,5 @@
 -- How far each run has been read, and what is then left of the view: the ground of building, checking and walking an index.
 -- Places are a function: p i is how many records of run i have been read.
-pub mod Passed
-pub mod Rest
-pub mod Laws
-pub mod Heads
-pub mod Steps
-mod Cases
 use Rattle.std.specs.Prelude.{ℕ, suc, ◌≡◌, cond, List, [], ◌∷◌, ◌++◌, eqb, leb}
 use Rattle.std.proofs.Math.Option.{Option, none, some}
 use Rattle.std.proofs.Math.ListN.{get_elem?}

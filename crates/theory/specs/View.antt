@@ -1,10 +1,5 @@
 -- The sorted view of a tray (docs/RULES.md, "The sorted view"): all records of all runs by rising key; equal keys by rising run number,
 -- so newest first. A record in the view stands with its run and its place in the run.
-pub mod Entries
-pub mod Laws
-pub mod Old
-pub mod Visible
-mod Cases
 use Rattle.std.specs.Prelude.{ℕ, suc, ◌+◌, ◌*◌, ◌<◌, ◌≡◌, ◌⊎◌, Bool, not, ◌&&◌, List, [], ◌∷◌, ◌++◌, take, get_or}
 use Rattle.std.proofs.Math.Option.{some}
 use Rattle.std.proofs.Math.ListN.{get_elem?}

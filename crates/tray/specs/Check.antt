@@ -1,8 +1,6 @@
 -- Check tray's answer for every input (docs/RULES.md, "Refusals by number": 1, then 3/2 in tray order), and what a sound tray is.
 mod Cases
 pub mod Code
-pub mod Laws
-pub mod Theorems
 use Rattle.std.specs.Prelude.{ℕ, zero, suc, ◌+◌, ◌<◌, ◌≡◌, true, false, cond, List}
 use Rattle.refusal.specs.declared.Refusal.TheVariants.{TrayFrame, KeyOrder, RecordKind}
 use Rattle.theory.specs.Records.{SoundRecord}

@@ -7,10 +7,6 @@ pub mod Seek
 pub mod From
 pub mod Standing
 pub mod Next
-pub mod Page
-pub mod Pages
-pub mod Sheet
-pub mod Prefix
 pub mod Selectors
 pub mod Belongs
 pub mod Handed

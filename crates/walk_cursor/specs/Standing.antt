@@ -15,7 +15,7 @@ use Rattle.std.proofs.Math.ListN.{get_or, get_or-replicate}
 use borrow.Author.Tests.{eq-eqb, ne_eqb, lt-ltb, le-ltb, eqb-true, eqb-false, ltb-true, ltb-false}
 use Rattle.theory.specs.Tests.{cases, never, order, and_left, and_right}
 use Rattle.theory.specs.Listed.{listed}
-use Rattle.theory.specs.Listed.Laws.{listed_same}
+use Rattle.theory.proofs.Listed.Laws.{listed_same}
 use Rattle.index.specs.Layout.{head_size, size_of, segment_count, segment_at, offset_from}
 use Rattle.index.specs.Layout.Code.{segment_at-next, segment_at-le}
 use Rattle.index.specs.Layout.Laws.{get_or-listed}

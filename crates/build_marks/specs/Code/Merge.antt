@@ -15,11 +15,11 @@ use Rattle.theory.specs.Rising.{Mem, All}
 use Rattle.theory.specs.Tests.{cases, order}
 use Rattle.theory.specs.View.{At, rank, view}
 use Rattle.theory.specs.Lists.{place-lt}
-use Rattle.theory.specs.View.Entries.{at-run, at_mem}
+use Rattle.theory.proofs.View.Entries.{at-run, at_mem}
 use Rattle.theory.specs.Places.{rest, passed, count, Head}
-use Rattle.theory.specs.Places.Passed.{passed-count}
-use Rattle.theory.specs.Places.Rest.{rest-zero, rest_end, rest-rises}
-use Rattle.theory.specs.Places.Laws.{stretch-back, first_head}
+use Rattle.theory.proofs.Places.Passed.{passed-count}
+use Rattle.theory.proofs.Places.Rest.{rest-zero, rest_end, rest-rises}
+use Rattle.theory.proofs.Places.Laws.{stretch-back, first_head}
 use Rattle.tray.specs.Frame.{run_count, count_of, run_bytes}
 use Rattle.tray.specs.Run.{record_at}
 use Rattle.tray.specs.Meaning.{runs_of, Fits, FitsRecord}
@@ -33,8 +33,8 @@ use Rattle.merge_lead.specs.Heads.{highest}
 use Rattle.merge_lead.specs.Heads.Leads.{NextRun, NoRun, LeastKey}
 use Rattle.merge_lead.specs.Heads.Leads.Next.{next_key-has, next_key-low}
 use Rattle.build_spec.specs.Build.{item_key}
-use Rattle.build_spec.specs.Build.Laws.{Ready, below_64}
-use Rattle.build_spec.specs.Build.Bytes.{run_at-has}
+use Rattle.build_spec.proofs.Build.Laws.{Ready, below_64}
+use Rattle.build_spec.proofs.Build.Bytes.{run_at-has}
 
 -- the records b have been read, w are left, and the places say so
 pub record Reached (t : List ℕ) (b w : List Item) (places : List ℕ) : Type 0 where

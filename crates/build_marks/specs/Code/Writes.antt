@@ -10,8 +10,8 @@ use Rattle.std.proofs.Math.Numerals.{add-one}
 use native.Mathlib.Omega.{arith}
 use Rattle.std.proofs.Math.ListN.{length}
 use Rattle.number.specs.Big.{bytes_of, put}
-use Rattle.number.specs.Big.Laws.{length-bytes_of}
-use Rattle.number.specs.Big.Writes.{put-put, put-nil, put-cons}
+use Rattle.number.proofs.Big.Laws.{length-bytes_of}
+use Rattle.number.proofs.Big.Writes.{put-put, put-nil, put-cons}
 use Rattle.theory.specs.Pack.{joined}
 use Rattle.theory.specs.Listed.{listed}
 use Rattle.merge_lead.specs.Heads.Leads.{LeastKey}

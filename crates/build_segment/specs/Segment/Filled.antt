@@ -10,12 +10,12 @@ use Rattle.std.proofs.lemmas.Bool.{eqb-false}
 use Rattle.theory.specs.Tests.{cases}
 use Rattle.number.specs.Big.{put}
 use Rattle.theory.specs.Rising.{Mem, Rises}
-use Rattle.theory.specs.Rising.Laws.{rises-left, rises-right}
+use Rattle.theory.proofs.Rising.Laws.{rises-left, rises-right}
 use Rattle.theory.specs.View.{rank}
-use Rattle.theory.specs.View.Laws.{view-at}
-use Rattle.theory.specs.View.Entries.{at-run}
+use Rattle.theory.proofs.View.Laws.{view-at}
+use Rattle.theory.proofs.View.Entries.{at-run}
 use Rattle.theory.specs.Pack.{groups, pack}
-use Rattle.theory.specs.Pack.Groups.{groups-full}
+use Rattle.theory.proofs.Pack.Groups.{groups-full}
 use Rattle.tray.specs.Frame.{run_count}
 use Rattle.tray.specs.Meaning.{runs_of, Fits}
 use Rattle.index.specs.Rules.{Item, key_of, selector_of}
@@ -23,7 +23,7 @@ use Rattle.index.specs.Rules.Cuts.{Cut, Above, last_of, last_snoc, whole_above, 
 use Rattle.index.specs.Scan.Places.{places_of}
 use Rattle.merge_lead.specs.Heads.Leads.{NextRun, LeastKey}
 use Rattle.build_spec.specs.Build.{item_key}
-use Rattle.build_spec.specs.Build.Laws.{Ready, below_64, rises-room}
+use Rattle.build_spec.proofs.Build.Laws.{Ready, below_64, rises-room}
 use Rattle.build_marks.specs.Code.{other_key, Stopped, After, over, other, stop, back, Fills, ends, cuts}
 use Rattle.build_marks.specs.Code.Merge.{Reached, Stand, Came, next-first, none_left, least_first}
 use Rattle.build_marks.specs.Code.Spelled.{marks_on, last_key, last_key-last, spells}

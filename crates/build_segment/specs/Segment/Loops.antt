@@ -11,11 +11,11 @@ use mathlib.Core.List.Memᴰ
 use mathlib.Core.List.{List, [], ◌∷◌, ◌++◌}
 use Rattle.std.proofs.Math.ListN.{length}
 use Rattle.number.specs.Big.{put, Bytes}
-use Rattle.number.specs.Big.Writes.{put-put, put-nil, length-put}
+use Rattle.number.proofs.Big.Writes.{put-put, put-nil, length-put}
 use Rattle.theory.specs.View.{view}
 use Rattle.theory.specs.Pack.{joined, groups, pack}
-use Rattle.theory.specs.Pack.Groups.{groups-joined, groups-full}
-use Rattle.theory.specs.Pack.Laws.{pack-joined, pack-full}
+use Rattle.theory.proofs.Pack.Groups.{groups-joined, groups-full}
+use Rattle.theory.proofs.Pack.Laws.{pack-joined, pack-full}
 use Rattle.tray.specs.Frame.{run_count, records_before}
 use Rattle.tray.specs.Meaning.{runs_of, Fits}
 use Rattle.tray.specs.Meaning.Laws.{length-runs_of}
@@ -28,9 +28,9 @@ use Rattle.index.specs.Rules.{Item, key_of}
 use Rattle.index.specs.Rules.Cuts.{cut-start}
 use Rattle.index.specs.Scan.Places.{places_of-none}
 use Rattle.build_spec.specs.Build.{item_key, cuts, segment_bytes, segments_bytes, index_size}
-use Rattle.build_spec.specs.Build.Laws.{Ready, length-view}
-use Rattle.build_spec.specs.Build.Bytes.{length-segment_bytes}
-use Rattle.build_spec.specs.Build.Theorems.{sound-ready}
+use Rattle.build_spec.proofs.Build.Laws.{Ready, length-view}
+use Rattle.build_spec.proofs.Build.Bytes.{length-segment_bytes}
+use Rattle.build_spec.proofs.Build.Theorems.{sound-ready}
 use Rattle.build_marks.specs.Code.{Segmented, Sounded}
 use Rattle.build_marks.specs.Code.Merge.{Stand}
 use Rattle.build_segment.specs.Segment.Segments.{Cutting, segment-is}

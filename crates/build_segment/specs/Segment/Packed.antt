@@ -9,7 +9,7 @@ use Rattle.theory.specs.Rising.{Mem}
 use Rattle.theory.specs.Lists.{all_tail}
 use Rattle.theory.specs.Tests.{cases}
 use Rattle.theory.specs.Pack.{joined, grouped, groups, pack_on, pack}
-use Rattle.theory.specs.Pack.Groups.{groups-joined}
+use Rattle.theory.proofs.Pack.Groups.{groups-joined}
 use Rattle.index.specs.Rules.{Item}
 use Rattle.build_spec.specs.Build.{item_key}
 

@@ -9,20 +9,20 @@ use Rattle.std.proofs.Math.ListN.{length, get_or, replicate, length-append, leng
 use Rattle.std.proofs.lemmas.List.{length-map}
 use Rattle.std.proofs.Math.Seq.{take-append_seam}
 use Rattle.number.specs.Big.{bytes_of, put}
-use Rattle.number.specs.Big.Laws.{length-bytes_of}
-use Rattle.number.specs.Big.Writes.{put-put, length-put}
+use Rattle.number.proofs.Big.Laws.{length-bytes_of}
+use Rattle.number.proofs.Big.Writes.{put-put, length-put}
 use Rattle.theory.specs.Places.{count}
 use Rattle.theory.specs.Pack.{joined, groups, pack}
 use Rattle.tray.specs.Frame.{run_count}
 use Rattle.tray.specs.Meaning.{runs_of, Fits}
 use Rattle.tray.specs.Meaning.Laws.{length-runs_of}
 use Rattle.theory.specs.Listed.{listed}
-use Rattle.theory.specs.Listed.Laws.{listed_same}
+use Rattle.theory.proofs.Listed.Laws.{listed_same}
 use Rattle.index.specs.Rules.{Item, selector_of}
 use Rattle.index.specs.Scan.Places.{places_of, get_or-places_of}
 use Rattle.build_spec.specs.Build.{item_key, anchor_of, offsets_bytes, segment_bytes}
-use Rattle.build_spec.specs.Build.Laws.{Ready}
-use Rattle.build_spec.specs.Build.Bytes.{length-offsets_bytes}
+use Rattle.build_spec.proofs.Build.Laws.{Ready}
+use Rattle.build_spec.proofs.Build.Bytes.{length-offsets_bytes}
 use Rattle.build_marks.specs.Code.{offsets_from, Segmented}
 use Rattle.build_marks.specs.Code.Merge.{Stand, least_first}
 use Rattle.build_segment.specs.Segment.Filled.{Filled, fill_is}

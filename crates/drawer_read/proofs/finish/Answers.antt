@@ -1,6 +1,6 @@
 -- `drawer_read::finish` meets its contract: where nothing is gathered no line is left.
 use Rattle.std.proofs.Common.{sym, arith, length-take-le}
-use Rattle.drawer_spec.specs.Feed.Code.{finishes-none, finishes-line}
+use Rattle.drawer_spec.proofs.Finishes.{finishes-none, finishes-line}
 use Rattle.drawer_read.proofs.finish.Goals as goal
 
 pub returns-then-g-eq0 : goal.returns-then-g-eq0

@@ -8,7 +8,7 @@ use Rattle.std.proofs.Math.ListN.{length, length-drop}
 use Rattle.std.proofs.Math.Seq.{length-take-le, get_or-drop, take-append-add}
 use Rattle.std.proofs.lemmas.List.{take-append-le}
 use Rattle.number.specs.Big.{put}
-use Rattle.number.specs.Big.Writes.{length-put, take_put}
+use Rattle.number.proofs.Big.Writes.{length-put, take_put}
 use Rattle.theory.specs.Tests.{never}
 use Rattle.drawer_spec.specs.Line.Front.{tray_size, line_size, Front}
 use Rattle.drawer_spec.specs.declared.Told.{Told}
@@ -247,7 +247,7 @@ unfolding ended
 ended-line p = refl
 
 -- nothing gathered is no line yet
-none-gathered : {line : List ℕ} {g : ℕ} (p : Progress) → g ≡ 0 → Front g gather_size line (take gather_size p.line) → p.line ≡ []
+pub none-gathered : {line : List ℕ} {g : ℕ} (p : Progress) → g ≡ 0 → Front g gather_size line (take gather_size p.line) → p.line ≡ []
 none-gathered {line} p e f = cut-none 32770 p.line (sym f.is ∙ ap (λ (n : ℕ). take n line) e)
 
 -- end_line
@@ -280,36 +280,6 @@ module _ (part : List ℕ) {carried : Carried} (line : List ℕ) {tray index out
             sym (ap (take gather_size) all ∙ take-take gather_size gather_size (more p part).line (omega arith)) in
             emptied-line line₁ (more p part) f.room-is a.emptied (a.turned (more p part) (more-keeps part s.keeps) cut);
         gathers = omega (arith, a.emptied);
-      }
-
--- finish
-finished-none : (p : Progress) → p.line ≡ [] → finished p ≡ p
-unfolding finished
-finished-none p e = rw e
-
-finished-some : (p : Progress) → (p.line ≡ [] → ⊥) → finished p ≡ ended p
-unfolding finished
-finished-some p h = go p.line refl
-  where
-    go : (l : List ℕ) → p.line ≡ l → finished p ≡ ended p
-    go [] e = absurd (h e)
-    go (c ∷ cs) e = rw e
-
-module _ {carried : Carried} (line : List ℕ) {tray index output : List ℕ} where
-  pub finishes-none : carried.gathered ≡ 0 → Finishes carried line tray index output carried tray index output
-  finishes-none e =
-      record { closed = λ p s. rw (finished-none p (none-gathered p e s.gathers)) s.keeps }
-
-  pub finishes-line : {after : Carried} {tray₁ index₁ output₁ : List ℕ} → (carried.gathered ≡ 0 → ⊥)
-      → Answers (take carried.gathered line) carried tray index output after tray₁ index₁ output₁
-      → Finishes carried line tray index output after tray₁ index₁ output₁
-  finishes-line some a =
-      record {
-        closed = λ p s.
-            let there : p.line ≡ [] → ⊥ = λ e. some (front_length s.gathers ∙ ap length (s.gathers.is ∙ ap (take gather_size) e)) in
-            let cut : take gather_size p.line ≡ take gather_size (take carried.gathered line) =
-            sym (ap (take gather_size) s.gathers.is ∙ take-take gather_size gather_size p.line (omega arith)) in
-            rw (finished-some p there) (a.turned p s.keeps cut);
       }
 
 -- take_lines

@@ -12,8 +12,8 @@ use Rattle.std.proofs.Math.Nat.{div-div-eq-div-mul}
 use mathlib.Core.List.{List, [], ◌∷◌, ◌++◌, append-nil}
 use Rattle.std.proofs.Math.ListN.{length, take}
 use Rattle.number.specs.Big.{bytes_of, put}
-use Rattle.number.specs.Big.Laws.{length-bytes_of, bytes_of-high, bytes_of-add}
-use Rattle.number.specs.Big.Writes.{take_put, put-put, length-put}
+use Rattle.number.proofs.Big.Laws.{length-bytes_of, bytes_of-high, bytes_of-add}
+use Rattle.number.proofs.Big.Writes.{take_put, put-put, length-put}
 use Rattle.refusal.specs.declared.Refusal.{Refusal}
 use Rattle.refusal.specs.declared.Verdict.{Verdict}
 use Rattle.refusal.specs.Table.{verdict_of}
@@ -26,7 +26,7 @@ use Rattle.tray.specs.Meaning.{runs_of}
 use Rattle.build_spec.specs.declared.BuildAnswer.{BuildAnswer}
 use Rattle.build_spec.specs.declared.BuildAnswer.TheVariants.{Written, Refused as BuildRefused}
 use Rattle.build_spec.specs.Build.{build_answer, index_bytes, build_leaves}
-use Rattle.build_spec.specs.Build.Answers.{build-written, leaves-written}
+use Rattle.build_spec.proofs.Build.Answers.{build-written, leaves-written}
 use Rattle.answers.specs.declared.ValueAnswer.{ValueAnswer}
 use Rattle.answers.specs.declared.GetAnswer.{GetAnswer}
 use Rattle.answers.specs.declared.GetAnswer.TheVariants.{Found, Absent, Refused as GetRefused}
@@ -34,7 +34,7 @@ use Rattle.walk.specs.Walk.{Walked, stayed, ended, lost}
 use Rattle.answers.specs.Get.{get_answer, get_framed, got_told, refused_get}
 use Rattle.answers.specs.Seek.Hands.{in-frames}
 use Rattle.walk.specs.Reads.{Got, value, absent, get-lost, get, sheet}
-use Rattle.walk.specs.Reads.Page.{listing, length-listing}
+use Rattle.walk.proofs.ReadsLaws.Page.{listing, length-listing}
 use Rattle.answers.specs.declared.SheetAnswer.{SheetAnswer}
 use Rattle.answers.specs.declared.SheetAnswer.TheVariants.{Listed, Refused as SheetRefused}
 use Rattle.answers.specs.Sheet.{prefix_long, prefix_last, listed_in, sheet_told, records_of, sheet_framed, sheet_answer, sheet_leaves}

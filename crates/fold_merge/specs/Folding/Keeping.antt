@@ -16,7 +16,7 @@ use Rattle.std.proofs.Math.ListN.{length, get_or, length-set, length-append}
 use Rattle.std.proofs.lemmas.List.{length-map, take-set-le, take-append-le}
 use Rattle.std.proofs.Math.Dec.{eqb}
 use borrow.Author.Tests.{lt-ltb, le-ltb, ltb-true, ltb-false, eq-eqb, ne_eqb}
-use Rattle.number.specs.Big.Laws.{be-part}
+use Rattle.number.proofs.Big.Laws.{be-part}
 use Rattle.theory.specs.Tests.{cases}
 use Rattle.theory.specs.Lists.{all_nil}
 use Rattle.theory.specs.Rising.{Mem, All}

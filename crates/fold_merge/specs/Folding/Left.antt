@@ -20,10 +20,10 @@ use Rattle.theory.specs.Tests.{cases, order}
 use Rattle.theory.specs.Lists.{all_nil, all_cons, place-get_or}
 use Rattle.theory.specs.Rising.{All, Rises}
 use Rattle.theory.specs.Rising
-use Rattle.theory.specs.Rising.Laws.{rises-right}
+use Rattle.theory.proofs.Rising.Laws.{rises-right}
 use Rattle.theory.specs.Records.{Record}
 use Rattle.theory.specs.Hiding.{same_key}
-use Rattle.theory.specs.Listed.Laws.{listed_same}
+use Rattle.theory.proofs.Listed.Laws.{listed_same}
 use Rattle.theory.specs.Merge.{merged}
 use Rattle.tray.specs.Frame.{run_count, count_of, run_bytes}
 use Rattle.tray.specs.Run.{record_at}

@@ -6,13 +6,13 @@ use Rattle.std.specs.Prelude.{◌≡◌, refl, ◌⊎◌, ℕ, zero, suc, ◌+�
 use Rattle.std.proofs.Common.{sym, ap, ◌∙◌, inl, inr, add-zero, zero-add, suc-add, add-suc, arith, append-nil, length-drop, take_at, drop_at}
 use Rattle.theory.specs.Tests.{split}
 use Rattle.theory.specs.Rising.{keep, insert, insert_all}
-use Rattle.theory.specs.Rising.Kept.{keep-length}
+use Rattle.theory.proofs.Rising.Kept.{keep-length}
 use Rattle.theory.specs.Records.{Record}
 use Rattle.theory.specs.Hiding.{same_key}
 use Rattle.theory.specs.Listed.{listed}
-use Rattle.theory.specs.Listed.Laws.{length-listed, listed_same}
+use Rattle.theory.proofs.Listed.Laws.{length-listed, listed_same}
 use Rattle.theory.specs.Merge.{hidden, over, merged}
-use Rattle.theory.specs.Merge.Laws.{over-nil-left, merged-front}
+use Rattle.theory.proofs.Merge.Laws.{over-nil-left, merged-front}
 use Rattle.tray.specs.Frame.{run_count, count_of, Framed}
 use Rattle.tray.specs.Meaning.{runs_of}
 use Rattle.tray.specs.Meaning.Laws.{run_in, length-run_of}

@@ -15,14 +15,14 @@ use Rattle.theory.specs.Tests.{cases, order}
 use Rattle.theory.specs.Lists.{here, all_cons, all_tail, all_nil, none-some}
 use Rattle.theory.specs.Rising.{All, Rises, any, keep, insert, insert_all}
 use Rattle.theory.specs.Rising
-use Rattle.theory.specs.Rising.Kept.{keep-mem, keep_all}
-use Rattle.theory.specs.Rising.Inserted.{insert_all-mem}
+use Rattle.theory.proofs.Rising.Kept.{keep-mem, keep_all}
+use Rattle.theory.proofs.Rising.Inserted.{insert_all-mem}
 use Rattle.theory.specs.Records.{Record}
 use Rattle.theory.specs.Hiding.{same_key}
 use Rattle.theory.specs.Listed.{listed}
 use Rattle.theory.specs.Merge.{hidden, over, merged}
-use Rattle.theory.specs.Merge.Hidden.{hidden-none, hidden-some}
-use Rattle.theory.specs.Merge.Laws.{over-mem, over-nil-left}
+use Rattle.theory.proofs.Merge.Hidden.{hidden-none, hidden-some}
+use Rattle.theory.proofs.Merge.Laws.{over-mem, over-nil-left}
 use Rattle.index.specs.Rules.{key_of}
 use Rattle.fold_merge.specs.Folding.{from_key}
 

@@ -9,14 +9,14 @@ use Prim.Native.Nat.{ℕ, suc, ◌+◌, ◌-◌, ◌*◌, ◌≤◌, ◌<◌}
 use native.Mathlib.Omega.{arith}
 use Rattle.std.proofs.Math.ListN.{length, drop}
 use Rattle.number.specs.Big.{bytes_of, Bytes}
-use Rattle.number.specs.Big.Laws.{bytes_of-be, length-bytes_of}
+use Rattle.number.proofs.Big.Laws.{bytes_of-be, length-bytes_of}
 use Rattle.theory.specs.Lists.{part-on}
 use Rattle.theory.specs.Records.{Record}
 use Rattle.theory.specs.Hiding.{same_key}
 use Rattle.theory.specs.Merge.{fold}
-use Rattle.theory.specs.Merge.Chains.{length-fold}
+use Rattle.theory.proofs.Merge.Chains.{length-fold}
 use Rattle.theory.specs.Listed.{listed}
-use Rattle.theory.specs.Listed.Laws.{laid}
+use Rattle.theory.proofs.Listed.Laws.{laid}
 use Rattle.tray.specs.Frame.{run_count, count_of, start_of, run_bytes, Framed}
 use Rattle.tray.specs.Frame.Laws.{start_of-zero, start_of-next, start_of-le, start_of-within, length_run}
 use Rattle.tray.specs.Meaning.{runs_of, records_bytes, counts_bytes, runs_bytes, tray_bytes}
@@ -24,7 +24,7 @@ use Rattle.tray.specs.Meaning.Laws.{run_in, length-run_of, length-runs_of}
 use Rattle.tray.specs.Meaning.Read.{length-records_bytes}
 use Rattle.tray.specs.Meaning.Write.{records-back, bytes_run}
 use Rattle.fold_spec.specs.Fold.{key_of, folded_run, folded_runs, fold_bytes, fold_size}
-use Rattle.fold_spec.specs.Fold.Laws.{length-fold_bytes}
+use Rattle.fold_spec.proofs.Fold.Laws.{length-fold_bytes}
 use Rattle.fold_write.specs.Write.{between, head_bytes, body_bytes}
 use Rattle.fold_merge.specs.Folding.Start.{listed-part, listed-drop}
 

@@ -4,8 +4,8 @@
 use Rattle.std.specs.Prelude.{◌≡◌, refl, ℕ, suc, ◌+◌, ◌-◌, ◌*◌, ◌≤◌, ◌<◌, List, [], ◌∷◌, ◌++◌, length, get_or, set}
 use Rattle.std.proofs.Common.{sym, ap, ap₂, ◌∙◌, arith, append_assoc, length-append}
 use Rattle.number.specs.Big.{bytes_of, put, Bytes}
-use Rattle.number.specs.Big.Laws.{length-bytes_of}
-use Rattle.number.specs.Big.Writes.{put-sets}
+use Rattle.number.proofs.Big.Laws.{length-bytes_of}
+use Rattle.number.proofs.Big.Writes.{put-sets}
 use Rattle.theory.specs.Records.{Record}
 use Rattle.tray.specs.declared.frame.TrayFrame.{TrayFrame}
 use Rattle.tray.specs.Frame.{run_count, start_of, Framed}

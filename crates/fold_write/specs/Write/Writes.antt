@@ -8,8 +8,8 @@ use Rattle.std.proofs.Common.{sym, ap, ap₂, ◌∙◌, subst, add-zero, arith,
 use mathlib.Core.List.Memᴰ
 use Rattle.std.proofs.lemmas.List.{length-map}
 use Rattle.number.specs.Big.{be, bytes_of, put, Bytes}
-use Rattle.number.specs.Big.Laws.{be-add, be-bound, bytes_of-add, length-bytes_of}
-use Rattle.number.specs.Big.Writes.{put-put, length-put, put-nil, put-cons}
+use Rattle.number.proofs.Big.Laws.{be-add, be-bound, bytes_of-add, length-bytes_of}
+use Rattle.number.proofs.Big.Writes.{put-put, length-put, put-nil, put-cons}
 use Rattle.theory.specs.Lists.{here}
 use Rattle.theory.specs.Rising.{Mem, All}
 use Rattle.tray.specs.Run.{record_from}

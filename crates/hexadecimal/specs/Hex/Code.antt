@@ -7,9 +7,9 @@ use Rattle.std.proofs.Common.{sym, ap, ◌∙◌, add-zero, zero-add, add-one, o
 use Rattle.std.proofs.Math.Nat.{sub-zero}
 use Rattle.std.proofs.lemmas.Bool.{lt-leb}
 use Rattle.number.specs.Big.{put}
-use Rattle.number.specs.Big.Writes.{put-nil, put-cons}
+use Rattle.number.proofs.Big.Writes.{put-nil, put-cons}
 use Rattle.theory.specs.Listed.{listed}
-use Rattle.theory.specs.Listed.Laws.{listed_same}
+use Rattle.theory.proofs.Listed.Laws.{listed_same}
 use Rattle.hexadecimal.specs.Hex.{is_digit, digit, all_digits, bytes_in, hex_of}
 use Rattle.hexadecimal.specs.Hex.Laws.{pair_at}
 

@@ -12,10 +12,10 @@
 use Rattle.std.specs.Prelude.{◌≡◌, refl, ◌⊎◌, ℕ, zero, suc, ◌+◌, ◌*◌, ◌/◌, ◌%◌, ◌<◌, Bool, true, false, cond, ◌&&◌, ◌||◌, List, [], ◌∷◌, ◌++◌, length, get_or, T, leb, ltb, eqb}
 use Rattle.std.proofs.Common.{ap, ◌∙◌, subst, inl, inr, ⊎_elim, div-add-mod', zero-add, arith, eqb→eq, ltb→lt, leb-true}
 use Rattle.number.specs.Big.{Bytes}
-use Rattle.number.specs.Big.Laws.{bytes-cons}
+use Rattle.number.proofs.Big.Laws.{bytes-cons}
 use Rattle.theory.specs.Tests.{clash, and_left, and_right}
 use Rattle.theory.specs.Listed.{listed}
-use Rattle.theory.specs.Listed.Laws.{length-listed, listed_same}
+use Rattle.theory.proofs.Listed.Laws.{length-listed, listed_same}
 use Rattle.hexadecimal.specs.Hex.{is_digit, digit_of, digit, all_digits, bytes_in, hex_of}
 
 -- a test passes at every number below n

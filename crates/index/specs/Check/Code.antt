@@ -16,11 +16,11 @@ use Rattle.theory.specs.Tests.{never}
 use Rattle.tray.specs.declared.TrayAnswer.{TrayAnswer}
 use Rattle.tray.specs.declared.TrayAnswer.TheVariants.{Records, Refused as TrayRefused}
 use Rattle.tray.specs.Frame.{run_count, count_of, Framing, Opened}
-use Rattle.tray.specs.Frame.Code.{opened}
+use Rattle.tray.proofs.FrameCode.{opened}
 use Rattle.tray.specs.Frame.Laws.{fits-framed}
 use Rattle.tray.specs.declared.frame.TrayFrame.{TrayFrame}
 use Rattle.tray.specs.Check.{check_tray_answer}
-use Rattle.tray.specs.Check.Theorems.{answers-records}
+use Rattle.tray.proofs.Check.Theorems.{answers-records}
 use Rattle.index.specs.declared.frame.IndexFrame.TheVariants.{Fits, Wrong}
 use Rattle.index.specs.declared.IndexAnswer.{IndexAnswer}
 use Rattle.index.specs.declared.IndexAnswer.TheVariants.{Segments, Refused}

@@ -15,7 +15,7 @@ use Rattle.tray.specs.declared.TrayAnswer.{TrayAnswer}
 use Rattle.tray.specs.declared.TrayAnswer.TheVariants.{Records, Refused as TrayRefused}
 use Rattle.tray.specs.Frame.{run_count, records_before}
 use Rattle.tray.specs.Check.{check_tray_answer, Sound}
-use Rattle.tray.specs.Check.Theorems.{answers-records}
+use Rattle.tray.proofs.Check.Theorems.{answers-records}
 use Rattle.tray.specs.Meaning.{runs_of}
 use Rattle.index.specs.declared.IndexAnswer.{IndexAnswer}
 use Rattle.index.specs.declared.IndexAnswer.TheVariants.{Segments, Refused}

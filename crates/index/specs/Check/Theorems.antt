@@ -15,13 +15,13 @@ use Rattle.theory.specs.Records.{Record}
 use Rattle.theory.specs.Rising.{Mem}
 use Rattle.theory.specs.Tests.{never}
 use Rattle.theory.specs.View.{view}
-use Rattle.theory.specs.View.Entries.{at-run}
-use Rattle.theory.specs.View.Laws.{view-at}
+use Rattle.theory.proofs.View.Entries.{at-run}
+use Rattle.theory.proofs.View.Laws.{view-at}
 use Rattle.tray.specs.declared.TrayAnswer.{TrayAnswer}
 use Rattle.tray.specs.declared.TrayAnswer.TheVariants.{Refused as TrayRefused}
 use Rattle.tray.specs.Frame.{run_count}
 use Rattle.tray.specs.Check.{check_tray_answer, Sound, Says as TraySays, refused-1, refused-2, refused-3, records}
-use Rattle.tray.specs.Check.Laws.{check-says as tray-says}
+use Rattle.tray.proofs.Check.Laws.{check-says as tray-says}
 use Rattle.tray.specs.Meaning.{runs_of}
 use Rattle.index.specs.declared.IndexAnswer.{IndexAnswer}
 use Rattle.index.specs.declared.IndexAnswer.TheVariants.{Segments, Refused}

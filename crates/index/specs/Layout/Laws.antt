@@ -9,7 +9,7 @@ use Rattle.std.proofs.Math.Option.{some, some-injective}
 use Rattle.std.proofs.Math.ListN.{get_or, get_elem?}
 use Rattle.theory.specs.Tests.{cases, never, and-true, and_left, and_right}
 use Rattle.theory.specs.Listed.{listed}
-use Rattle.theory.specs.Listed.Laws.{get_elem?-listed, get_elem?-listed-past, listed_same}
+use Rattle.theory.proofs.Listed.Laws.{get_elem?-listed, get_elem?-listed-past, listed_same}
 use Rattle.index.specs.Layout.{size_of, head_size, offset_from, selector_from, segment_from, IndexFramed, index_framed}
 
 pub index-fits : (h : ℕ) (x : List ℕ) → index_framed h x ≡ true → IndexFramed h x

@@ -9,15 +9,15 @@ use Rattle.std.proofs.Common.{sym, ap, ◌∙◌, ⊎_elim, arith, append_assoc}
 use mathlib.Core.List.Memᴰ
 use Rattle.theory.specs.Records.{Record, SoundRecord}
 use Rattle.theory.specs.Rising.{Mem, All, Rises, more}
-use Rattle.theory.specs.Rising.Laws.{rises-across, rises-left, rises-right}
+use Rattle.theory.proofs.Rising.Laws.{rises-across, rises-left, rises-right}
 use Rattle.theory.specs.Tests.{never}
 use Rattle.theory.specs.Merge.{Good}
 use Rattle.theory.specs.View.{rank, view}
-use Rattle.theory.specs.View.Entries.{at_low}
-use Rattle.theory.specs.View.Laws.{view-at, view-rises}
+use Rattle.theory.proofs.View.Entries.{at_low}
+use Rattle.theory.proofs.View.Laws.{view-at, view-rises}
 use Rattle.theory.specs.Places.{rest, passed}
-use Rattle.theory.specs.Places.Rest.{rest-zero}
-use Rattle.theory.specs.Places.Laws.{stretch-back}
+use Rattle.theory.proofs.Places.Rest.{rest-zero}
+use Rattle.theory.proofs.Places.Laws.{stretch-back}
 use Rattle.index.specs.Rules.{key_of, Item, KeysWhole}
 
 -- the last of the records c and then es

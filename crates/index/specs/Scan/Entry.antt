@@ -13,10 +13,10 @@ use borrow.Author.Tests.{ltb-true, lt-ltb}
 use Rattle.theory.specs.Records.{SoundRecord}
 use Rattle.theory.specs.Merge.{Good}
 use Rattle.theory.specs.View.{run_at}
-use Rattle.theory.specs.View.Entries.{at_one, at-run}
+use Rattle.theory.proofs.View.Entries.{at_one, at-run}
 use Rattle.theory.specs.Places.{bump, passed, count, Head}
-use Rattle.theory.specs.Places.Passed.{passed-count, passed-append}
-use Rattle.theory.specs.Places.Rest.{head-lt}
+use Rattle.theory.proofs.Places.Passed.{passed-count, passed-append}
+use Rattle.theory.proofs.Places.Rest.{head-lt}
 use Rattle.tray.specs.Frame.{run_count, count_of, run_bytes}
 use Rattle.theory.specs.Tests.{and-true, and_left, and_right}
 use Rattle.tray.specs.Check.{Sound}

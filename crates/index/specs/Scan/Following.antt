@@ -13,7 +13,7 @@ use Rattle.std.proofs.Math.Seq.{append_snoc}
 use borrow.Author.Tests.{eqb-true, eqb-false, eq-eqb, ne_eqb}
 use Rattle.theory.specs.Records.{Record}
 use Rattle.theory.specs.Tests.{split_at, never}
-use Rattle.theory.specs.View.Laws.{before→rank, rank→before}
+use Rattle.theory.proofs.View.Laws.{before→rank, rank→before}
 use Rattle.theory.specs.Places.{Head}
 use Rattle.tray.specs.Frame.{run_count}
 use Rattle.tray.specs.Check.{Sound}

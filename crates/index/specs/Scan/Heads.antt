@@ -9,11 +9,11 @@ use Rattle.theory.specs.Records.{Record}
 use Rattle.theory.specs.Rising.{Mem}
 use Rattle.theory.specs.Tests.{cases}
 use Rattle.theory.specs.View.{run_at}
-use Rattle.theory.specs.View.Entries.{at_low}
+use Rattle.theory.proofs.View.Entries.{at_low}
 use Rattle.theory.specs.Places.{rest, passed, Head, Takes, take_none, take_more}
-use Rattle.theory.specs.Places.Passed.{bump-same, bump-other}
-use Rattle.theory.specs.Places.Rest.{rest-zero, mem-rest, rest-mem, head_first, head-lt, used-end, end-used}
-use Rattle.theory.specs.Places.Laws.{stretch-back}
+use Rattle.theory.proofs.Places.Passed.{bump-same, bump-other}
+use Rattle.theory.proofs.Places.Rest.{rest-zero, mem-rest, rest-mem, head_first, head-lt, used-end, end-used}
+use Rattle.theory.proofs.Places.Laws.{stretch-back}
 use Rattle.tray.specs.Frame.{run_count, count_of}
 use Rattle.tray.specs.Check.{Sound}
 use Rattle.tray.specs.Meaning.{runs_of}

@@ -14,7 +14,7 @@ use Rattle.theory.specs.Tests.{cases}
 use Rattle.theory.specs.Hiding.{same_key}
 use Rattle.theory.specs.Merge.{Good}
 use Rattle.theory.specs.View.{view, old}
-use Rattle.theory.specs.View.Old.{old-before, old-neighbour}
+use Rattle.theory.proofs.View.Old.{old-before, old-neighbour}
 use Rattle.index.specs.Rules.{key_of, Item, selector_of}
 use Rattle.index.specs.Rules.Cuts.{Cut}
 use Rattle.index.specs.Scan.{marked}

@@ -8,9 +8,9 @@ use Rattle.std.proofs.Common.{sym, ◌∙◌, arith, zero-add, length-set, ext_g
 use Rattle.std.proofs.lemmas.Bool.{eqb-false}
 use Rattle.theory.specs.Tests.{cases}
 use Rattle.theory.specs.Places.{count}
-use Rattle.theory.specs.Places.Passed.{count-append}
+use Rattle.theory.proofs.Places.Passed.{count-append}
 use Rattle.theory.specs.Listed.{listed}
-use Rattle.theory.specs.Listed.Laws.{length-listed}
+use Rattle.theory.proofs.Listed.Laws.{length-listed}
 use Rattle.index.specs.Layout.Laws.{get_or-listed}
 use Rattle.index.specs.Rules.{Item}
 use Rattle.index.specs.Scan.{raise}

@@ -8,14 +8,14 @@ use Rattle.std.proofs.Common.{sym, ap, ap₂, ◌∙◌, subst, arith}
 use mathlib.Core.List.Memᴰ
 use Rattle.theory.specs.Records.{Record, SoundRecord}
 use Rattle.theory.specs.Rising.{Mem, Rises}
-use Rattle.theory.specs.Rising.Laws.{rises-left}
+use Rattle.theory.proofs.Rising.Laws.{rises-left}
 use Rattle.theory.specs.Tests.{never}
 use Rattle.theory.specs.Merge.{Good}
 use Rattle.theory.specs.View.{rank}
-use Rattle.theory.specs.View.Entries.{at_low}
+use Rattle.theory.proofs.View.Entries.{at_low}
 use Rattle.theory.specs.Places.{rest, passed, Head, Takes, take_more}
-use Rattle.theory.specs.Places.Passed.{passed-append}
-use Rattle.theory.specs.Places.Laws.{takes-read, stretch, stretch-back}
+use Rattle.theory.proofs.Places.Passed.{passed-append}
+use Rattle.theory.proofs.Places.Laws.{takes-read, stretch, stretch-back}
 use Rattle.index.specs.Layout.{Segment}
 use Rattle.index.specs.Rules.{placeholder, key_of, Item, spelled, selector_of, PlaceholdersLast, Right}
 use Rattle.index.specs.Rules.Laws.{Ended, ended-cons, ended-tail, spelled-more}

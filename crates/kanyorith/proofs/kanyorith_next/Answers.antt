@@ -1,7 +1,7 @@
 -- `kanyorith::kanyorith_next` meets its promise: what `hand_over` promises, of the call's own answer.
 use mathlib.Core.Path.{subst, ap, ◌∙◌}
 use Rattle.answers.specs.Next.{next_answer}
-use Rattle.kanyorith.specs.Code.Narrow.{sought-narrow}
+use Rattle.kanyorith.proofs.CodeLaws.Narrow.{sought-narrow}
 use Rattle.theorems.specs.Cursors.{cursor_in}
 use Rattle.kanyorith.specs.Promises.{Sought}
 use Rattle.kanyorith.proofs.kanyorith_next.Goals as goal

@@ -1,7 +1,7 @@
 -- `kanyorith::kanyorith_page` meets its promise: a way out for each answer.
 use mathlib.Core.Path.{subst, ap, ◌∙◌}
 use Rattle.answers.specs.Page.{page_answer, page_leaves}
-use Rattle.kanyorith.specs.Code.Narrow.{page-narrow}
+use Rattle.kanyorith.proofs.CodeLaws.Narrow.{page-narrow}
 use Rattle.kanyorith.specs.Code.{page-more, page-end, page-refused}
 use Rattle.theorems.specs.Cursors.Laws.{narrow_cursor}
 use Rattle.theorems.specs.Cursors.{cursor_in}

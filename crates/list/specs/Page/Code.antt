@@ -11,8 +11,8 @@ use native.Mathlib.Omega.{arith}
 use mathlib.Core.List.{List, ◌++◌, append_assoc}
 use borrow.Author.Tests.{lt-ltb, le-ltb, le-leb, lt-leb}
 use Rattle.number.specs.Big.{be, bytes_of, put}
-use Rattle.number.specs.Big.Laws.{be-add, bytes_of-add, length-bytes_of}
-use Rattle.number.specs.Big.Writes.{put-put, length-put}
+use Rattle.number.proofs.Big.Laws.{be-add, bytes_of-add, length-bytes_of}
+use Rattle.number.proofs.Big.Writes.{put-put, length-put}
 use Rattle.tray.specs.declared.Place.{Place}
 use Rattle.tray.specs.Frame.{run_count, run_bytes}
 use Rattle.index.specs.Layout.{segment_at}
@@ -22,7 +22,7 @@ use Rattle.walk.specs.Reads.{listed_bytes, write, unmarked, record_by, page_visi
 use Rattle.walk.specs.Code.{placed, numbers, Walking}
 use Rattle.walk.specs.Code.Load.{loaded_from}
 use Rattle.walk.specs.Code.Turns.{Here, place_is, here-enter}
-use Rattle.walk.specs.Reads.Page.{length-listed}
+use Rattle.walk.proofs.ReadsLaws.Page.{length-listed}
 use Rattle.list.specs.Steps.{spot_at, onward, here-first, here-inner, here_back, here-pass, here-go}
 use Rattle.list.specs.Page.{so_far}
 

@@ -4,11 +4,11 @@
 use Rattle.std.specs.Prelude.{◌≡◌, refl, ℕ, ◌+◌, ◌-◌, ◌*◌, ◌≤◌, ◌<◌, List, length, get_or, take, drop}
 use Rattle.std.proofs.Common.{sym, ap, ap₂, ◌∙◌, add-zero, add-one, arith, length-drop, take-suc, length-take-le}
 use Rattle.number.specs.Big.{put}
-use Rattle.number.specs.Big.Writes.{length-put}
+use Rattle.number.proofs.Big.Writes.{length-put}
 use Rattle.theory.specs.Records.{Record}
 use Rattle.tray.specs.Run.{record_from, record_at}
 use Rattle.walk.specs.Reads.{listed_bytes}
-use Rattle.walk.specs.Reads.Page.{length-listed}
+use Rattle.walk.proofs.ReadsLaws.Page.{length-listed}
 use Rattle.list.specs.Stops.Laws.{record-part}
 use Rattle.list.specs.Put.{put_all}
 use Rattle.list.specs.Put.Laws.{put_all-more}

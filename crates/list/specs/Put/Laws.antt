@@ -5,11 +5,11 @@ use Rattle.std.specs.Prelude.{◌≡◌, refl, ℕ, suc, ◌+◌, ◌*◌, ◌�
 use Rattle.std.proofs.Common.{sym, ap, ◌∙◌, add-zero, arith, append-nil}
 use Rattle.std.proofs.Math.Seq.{append_snoc}
 use Rattle.number.specs.Big.{put}
-use Rattle.number.specs.Big.Writes.{length-put}
+use Rattle.number.proofs.Big.Writes.{length-put}
 use Rattle.theory.specs.Records.{Record}
 use Rattle.tray.specs.Run.{record_from}
 use Rattle.walk.specs.Reads.{Written, listed_bytes, write}
-use Rattle.walk.specs.Reads.Page.{listing, written, length-listed, write-more}
+use Rattle.walk.proofs.ReadsLaws.Page.{listing, written, length-listed, write-more}
 use Rattle.list.specs.Put.{put_all}
 
 pub put_all-more : (t bs : List ℕ) (a count : ℕ) (out : List ℕ)

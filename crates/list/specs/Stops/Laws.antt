@@ -13,7 +13,7 @@ use Prim.Native.Nat.{ℕ, zero, suc, ◌+◌, ◌-◌, ◌*◌, ◌≤◌, ◌<�
 use Rattle.std.proofs.Math.ListN.{length, get_or}
 use borrow.Author.Tests.{eqb-true, eqb-false, eq-eqb, ne_eqb, ltb-true, lt-ltb, le-ltb}
 use Rattle.number.specs.Big.{be}
-use Rattle.number.specs.Big.Laws.{be-part}
+use Rattle.number.proofs.Big.Laws.{be-part}
 use Rattle.theory.specs.Lists.{here, all_nil, all_cons, all_tail}
 use Rattle.theory.specs.Rising.{All}
 use Rattle.theory.specs.Tests.{split, cases, and_left, and_right}

@@ -9,7 +9,7 @@ use Rattle.std.proofs.Common.{sym, ap, ◌∙◌, subst, add-one, arith, length-
 use Rattle.std.proofs.lemmas.List.{length-replicate, get_or-replicate}
 use Rattle.tray.specs.Frame.{run_count, count_of, run_bytes}
 use Rattle.tray.specs.Frame.Laws.{upto}
-use Rattle.tray.specs.Frame.Code.{cut}
+use Rattle.tray.proofs.FrameCode.{cut}
 use Rattle.tray.specs.Run.{record_at}
 use Rattle.index.specs.Scan.Code.{Reading}
 use Rattle.merge_lead.specs.Heads.{highest, key_or, next_key, Padded, Caching}

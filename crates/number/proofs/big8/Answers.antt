@@ -1,6 +1,6 @@
 -- `number::big8` meets its contract: the first half counts 256 to the power 4, which is `be-add`.
 use native.Mathlib.Omega.{arith}
-use Rattle.number.specs.Big.Laws.{be-add}
+use Rattle.number.proofs.Big.Laws.{be-add}
 use Rattle.number.proofs.big8.Goals as goal
 
 pub returns : goal.returns

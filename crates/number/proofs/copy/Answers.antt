@@ -1,5 +1,5 @@
 -- `number::copy` meets its contract. Invariant: the bytes from place i on, written from there, complete the copy. Measure: the bytes left.
-use Rattle.number.specs.Big.Copies.{copying-none, copying-more, copying-end}
+use Rattle.number.proofs.Big.Copies.{copying-none, copying-more, copying-end}
 use native.Mathlib.Omega.{arith}
 use Rattle.number.proofs.copy.Goals as goal
 

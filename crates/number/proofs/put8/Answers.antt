@@ -1,7 +1,7 @@
 -- `number::put8` meets its contract: `put4` writes each half, the second right after the first, which is `put-halves`.
 use mathlib.Core.Path.{◌∙◌}
 use native.Mathlib.Omega.{arith}
-use Rattle.number.specs.Big.Writes.{put-halves}
+use Rattle.number.proofs.Big.Writes.{put-halves}
 use Rattle.number.proofs.put8.Goals as goal
 
 pub returns : goal.returns

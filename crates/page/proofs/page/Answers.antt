@@ -1,7 +1,7 @@
 -- `page::page` meets its contract.
 use Rattle.refusal.specs.declared.Refusal.{Refusal}
 use mathlib.Core.Path.{sym, ◌∙◌, refl}
-use Rattle.tray.specs.Frame.Code.{opened}
+use Rattle.tray.proofs.FrameCode.{opened}
 use Rattle.index.specs.Layout.Code.{laid}
 use Rattle.answers.specs.Page.{refused_page, page_answer, page_leaves}
 use Rattle.answers.specs.Code.{frames-tray, frames-index, frames-fit}

@@ -2,7 +2,7 @@
 use Rattle.answers.specs.Seek.{refused_seek, seek_answer, seek_framed}
 use Rattle.answers.specs.Code.{frames-tray, frames-index, frames-fit}
 use Rattle.index.specs.Layout.Code.{laid}
-use Rattle.tray.specs.Frame.Code.{opened}
+use Rattle.tray.proofs.FrameCode.{opened}
 use mathlib.Core.Path.{sym, ap, ◌∙◌}
 use Rattle.seek.proofs.seek.Goals as goal
 

@@ -3,7 +3,7 @@ use Rattle.answers.specs.Sheet.{sheet_answer, sheet_leaves}
 use Rattle.answers.specs.declared.SheetAnswer.TheVariants.{Refused}
 use Rattle.answers.specs.Code.{frames-tray, frames-index, frames-fit}
 use Rattle.index.specs.Layout.Code.{laid}
-use Rattle.tray.specs.Frame.Code.{opened}
+use Rattle.tray.proofs.FrameCode.{opened}
 use mathlib.Core.Path.{refl, sym, ◌∙◌}
 use Rattle.sheet.proofs.sheet.Goals as goal
 

@@ -11,7 +11,7 @@ use Rattle.std.proofs.Common.{sym, ◌∙◌, subst, add-zero, zero-add, add-suc
 use Rattle.std.proofs.Math.Path.{ap}
 use Rattle.std.proofs.Math.ListN.{length}
 use Rattle.number.specs.Big.{bytes_of, Bytes}
-use Rattle.number.specs.Big.Laws.{be-bound, bytes-bytes_of, bytes-cons, bytes-append}
+use Rattle.number.proofs.Big.Laws.{be-bound, bytes-bytes_of, bytes-cons, bytes-append}
 use Rattle.theory.specs.Lists.{here, all_tail}
 use Rattle.theory.specs.Rising.{Mem, All}
 use Rattle.theory.specs.Listed.{listed}

@@ -11,11 +11,11 @@ use Rattle.std.proofs.Common.{zero-add, arith}
 use Rattle.std.proofs.Math.ListN.{get_elem?}
 use Rattle.theory.specs.Lists.{place_none}
 use Rattle.theory.specs.Rising.{Mem, All, Rises}
-use Rattle.theory.specs.Listed.Laws.{length-listed, mem-listed, all_listed, get_elem?-listed, rises-listed, listed-rises}
+use Rattle.theory.proofs.Listed.Laws.{length-listed, mem-listed, all_listed, get_elem?-listed, rises-listed, listed-rises}
 use Rattle.theory.specs.Records.{Record, SoundRecord}
 use Rattle.theory.specs.Merge.{GoodRun, Good}
 use Rattle.theory.specs.View.{run_at}
-use Rattle.theory.specs.View.Entries.{run_at-place, run_at-past}
+use Rattle.theory.proofs.View.Entries.{run_at-place, run_at-past}
 use Rattle.tray.specs.Frame.{run_count, count_of, run_bytes, Framed}
 use Rattle.tray.specs.Run.{record_at}
 use Rattle.tray.specs.Check.{Sound}

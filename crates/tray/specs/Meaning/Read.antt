@@ -11,7 +11,7 @@ use Prim.Native.Nat.{ℕ, suc, ◌+◌, ◌-◌, ◌*◌, ◌^◌, ◌≤◌, �
 use mathlib.Core.List.{List, [], ◌∷◌, ◌++◌, append_assoc, append-nil}
 use Rattle.std.proofs.Math.ListN.{length, drop}
 use Rattle.number.specs.Big.{be, bytes_of}
-use Rattle.number.specs.Big.Laws.{be-drop, be-append-left, be-bytes_of, length-bytes_of}
+use Rattle.number.proofs.Big.Laws.{be-drop, be-append-left, be-bytes_of, length-bytes_of}
 use Rattle.theory.specs.Lists.{here, all_tail, part-next}
 use Rattle.theory.specs.Rising.{All}
 use Rattle.theory.specs.Listed.{listed}

@@ -13,9 +13,9 @@ use Rattle.std.proofs.Math.ListN.{length, drop}
 use Rattle.std.proofs.Common.{drop-drop, take-add}
 use Rattle.std.proofs.Math.Seq.{drop-cons}
 use Rattle.number.specs.Big.{bytes_of, Bytes}
-use Rattle.number.specs.Big.Laws.{bytes_of-be, bytes_take, bytes_drop}
+use Rattle.number.proofs.Big.Laws.{bytes_of-be, bytes_take, bytes_drop}
 use Rattle.theory.specs.Lists.{part-on, part_end}
-use Rattle.theory.specs.Listed.Laws.{laid}
+use Rattle.theory.proofs.Listed.Laws.{laid}
 use Rattle.tray.specs.Frame.{run_count, count_of, start_of, run_bytes, Framed}
 use Rattle.tray.specs.Frame.Laws.{start_of-zero, start_of-next, start_of-within, length_run}
 use Rattle.tray.specs.Run.{record_from, record_at}

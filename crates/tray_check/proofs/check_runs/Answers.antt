@@ -4,7 +4,7 @@ use Rattle.tray.specs.Run.{judge_run}
 use mathlib.Core.Path.{ap, ◌∙◌}
 use native.Mathlib.Omega.{arith}
 use Rattle.tray.specs.Check.Code.{judging-none, judging-more, judged-end, judged-kind, judged-key}
-use Rattle.tray.specs.Frame.Code.{cut-run}
+use Rattle.tray.proofs.FrameCode.{cut-run}
 use Rattle.tray_check.proofs.check_runs.Goals as goal
 
 pub loop-r-init : goal.loop-r-init

@@ -1,6 +1,6 @@
 -- `tray_check::check_tray` meets its contract: the frame decides whether the runs are judged.
 use Rattle.tray.specs.Check.Code.{check-judged, check-frame}
-use Rattle.tray.specs.Frame.Code.{opened}
+use Rattle.tray.proofs.FrameCode.{opened}
 use mathlib.Core.Path.{sym, ◌∙◌}
 use Rattle.tray_check.proofs.check_tray.Goals as goal
 

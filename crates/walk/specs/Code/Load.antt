@@ -8,7 +8,7 @@ use Rattle.std.proofs.lemmas.List.{get_or-replicate}
 use Rattle.std.proofs.Math.ListN.{get_or-eq_default}
 use Rattle.theory.specs.Tests.{cases, order}
 use Rattle.theory.specs.Listed.{listed}
-use Rattle.theory.specs.Listed.Laws.{length-listed}
+use Rattle.theory.proofs.Listed.Laws.{length-listed}
 use Rattle.tray.specs.declared.Place.{Place}
 use Rattle.index.specs.Layout.{size_of, segment_at, offset_from}
 use Rattle.index.specs.Layout.Laws.{get_or-listed}

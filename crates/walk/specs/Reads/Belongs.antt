@@ -15,7 +15,7 @@ use Rattle.std.proofs.Math.ListN.{take}
 use Rattle.std.proofs.lemmas.List.{length-replicate}
 use Rattle.std.proofs.Math.Seq.{length-take-le}
 use borrow.Author.Tests.{eqb-true, eq-eqb, ltb-true, ltb-false, lt-ltb}
-use Rattle.theory.specs.Listed.Laws.{length-listed}
+use Rattle.theory.proofs.Listed.Laws.{length-listed}
 use Rattle.theory.specs.Lists.{here}
 use Rattle.theory.specs.Rising.{Mem, All}
 use Rattle.theory.specs.Tests.{cases, and-true, and_left, and_right}

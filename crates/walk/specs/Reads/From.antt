@@ -5,7 +5,7 @@ use Rattle.std.specs.Prelude.{◌≡◌, refl, ℕ, List, [], ◌∷◌, ◌++�
 use Rattle.std.proofs.Common.{sym, ap, subst, arith, leb-true, le-leb}
 use mathlib.Core.List.Memᴰ
 use Rattle.theory.specs.Rising.{Rises, none, more, keep}
-use Rattle.theory.specs.Rising.Kept.{keep_all}
+use Rattle.theory.proofs.Rising.Kept.{keep_all}
 use Rattle.theory.specs.Tests.{cases}
 use Rattle.index.specs.Rules.{key_of}
 use Rattle.walk.specs.Walk.Spots.{Reading, Stop}

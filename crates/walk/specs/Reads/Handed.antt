@@ -18,7 +18,7 @@ use Rattle.std.proofs.Math.Seq.{ext_get_or, get_or-set_same, get_or-set_other}
 use Rattle.std.proofs.Math.Dec.{eqb}
 use borrow.Author.Tests.{eq-eqb, ne_eqb, eqb-true, eqb-false, lt-ltb, ltb-true}
 use Rattle.theory.specs.Tests.{cases, never, and_left, and_right, and-true}
-use Rattle.theory.specs.Listed.Laws.{length-listed, listed_same}
+use Rattle.theory.proofs.Listed.Laws.{length-listed, listed_same}
 use Rattle.tray.specs.Frame.{run_count}
 use Rattle.index.specs.Layout.{size_of, segment_count, segment_at, offset_from}
 use Rattle.index.specs.Layout.Laws.{get_or-listed}

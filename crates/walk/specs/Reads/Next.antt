@@ -13,7 +13,7 @@ use Rattle.std.proofs.Math.Bool.{true, false, cond}
 use mathlib.Core.List.Memᴰ
 use borrow.Author.Tests.{eq-eqb, eqb-true, lt-ltb, le-ltb, le-leb}
 use Rattle.theory.specs.Rising.{Mem, All, keep}
-use Rattle.theory.specs.Rising.Kept.{keep_all}
+use Rattle.theory.proofs.Rising.Kept.{keep_all}
 use Rattle.theory.specs.Tests.{cases}
 use Rattle.tray.specs.Meaning.{runs_of}
 use Rattle.index.specs.Layout.{size_of, segment_count}

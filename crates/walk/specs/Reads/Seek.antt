@@ -14,12 +14,12 @@ use mathlib.Core.List.{List, [], ◌∷◌, map}
 use borrow.Author.Tests.{eqb-false, eq-eqb, ne_eqb, leb-true, leb-false, lt-leb}
 use Rattle.theory.specs.Records.{Record, live, SoundRecord}
 use Rattle.theory.specs.Hiding.{same_key}
-use Rattle.theory.specs.Hiding.Laws.{same_key-rule}
+use Rattle.theory.proofs.Hiding.Laws.{same_key-rule}
 use Rattle.theory.specs.Lists.{here, all_tail}
 use Rattle.theory.specs.Rising.{Mem, All, Rises, none, more, keep}
-use Rattle.theory.specs.Rising.Kept.{keep-mem, mem-keep, rises-keep}
+use Rattle.theory.proofs.Rising.Kept.{keep-mem, mem-keep, rises-keep}
 use Rattle.theory.specs.Merge.{merged}
-use Rattle.theory.specs.Merge.Laws.{merged-good}
+use Rattle.theory.proofs.Merge.Laws.{merged-good}
 use Rattle.theory.specs.Tests.{cases, clash}
 use Rattle.tray.specs.Frame.{run_count}
 use Rattle.tray.specs.Meaning.{runs_of}

@@ -16,11 +16,11 @@ use Rattle.std.proofs.Math.Seq.{take_all}
 use Rattle.std.proofs.Math.Dec.{eqb}
 use borrow.Author.Tests.{eqb-true, eqb-false, ne_eqb, ltb-true, ltb-false}
 use Rattle.theory.specs.Listed.{listed}
-use Rattle.theory.specs.Listed.Laws.{listed_same}
+use Rattle.theory.proofs.Listed.Laws.{listed_same}
 use Rattle.theory.specs.Tests.{cases, never, split}
 use Rattle.theory.specs.View.{view}
 use Rattle.theory.specs.Places.{count}
-use Rattle.theory.specs.Places.Passed.{count-append}
+use Rattle.theory.proofs.Places.Passed.{count-append}
 use Rattle.tray.specs.Frame.{run_count}
 use Rattle.tray.specs.Check.{Sound}
 use Rattle.tray.specs.Meaning.{runs_of}

@@ -10,12 +10,12 @@ use Rattle.std.proofs.Common.{ap₂, ◌∙◌}
 use mathlib.Core.List.{List, [], ◌∷◌, ◌++◌, map, map-append, map-map, append_assoc}
 use Rattle.theory.specs.Records.{Record, live, SoundRecord}
 use Rattle.theory.specs.Hiding.{same_key}
-use Rattle.theory.specs.Hiding.Laws.{same_key-rule}
+use Rattle.theory.proofs.Hiding.Laws.{same_key-rule}
 use Rattle.theory.specs.Rising.{All, keep}
 use Rattle.theory.specs.Merge.{merged}
 use Rattle.theory.specs.View.{view, visible}
-use Rattle.theory.specs.View.Visible.{visible-is}
-use Rattle.theory.specs.Places.Laws.{place-count}
+use Rattle.theory.proofs.View.Visible.{visible-is}
+use Rattle.theory.proofs.Places.Laws.{place-count}
 use Rattle.tray.specs.Frame.{run_bytes}
 use Rattle.tray.specs.Run.{record_at}
 use Rattle.tray.specs.Check.{Sound}

@@ -17,7 +17,7 @@ use Rattle.std.proofs.Math.ListN.{length, length-append, length-map}
 use Rattle.std.proofs.Math.Seq.{drop-nil, append_snoc}
 use Rattle.std.proofs.lemmas.Bool.{eqb-false}
 use Rattle.theory.specs.Listed.{listed}
-use Rattle.theory.specs.Listed.Laws.{length-listed}
+use Rattle.theory.proofs.Listed.Laws.{length-listed}
 use Rattle.theory.specs.Tests.{cases, split}
 use Rattle.theory.specs.View.{view}
 use Rattle.tray.specs.Check.{Sound}

@@ -10,10 +10,10 @@ use Rattle.theory.specs.Records.{live}
 use Rattle.theory.specs.Hiding.{same_key}
 use Rattle.theory.specs.Lists.{here}
 use Rattle.theory.specs.View.{view, old, visible}
-use Rattle.theory.specs.View.Entries.{at_low}
-use Rattle.theory.specs.View.Laws.{view-at}
+use Rattle.theory.proofs.View.Entries.{at_low}
+use Rattle.theory.proofs.View.Laws.{view-at}
 use Rattle.theory.specs.Places.{Head}
-use Rattle.theory.specs.Places.Laws.{place-count}
+use Rattle.theory.proofs.Places.Laws.{place-count}
 use Rattle.tray.specs.Frame.{run_bytes}
 use Rattle.tray.specs.Run.{record_at}
 use Rattle.tray.specs.Check.{Sound}

@@ -20,13 +20,13 @@ use Rattle.std.proofs.Math.ListN.{length}
 use Rattle.std.proofs.lemmas.List.{length-map}
 use Rattle.std.proofs.Math.Seq.{drop_at}
 use Rattle.theory.specs.Listed.{listed}
-use Rattle.theory.specs.Listed.Laws.{listed_same}
+use Rattle.theory.proofs.Listed.Laws.{listed_same}
 use Rattle.theory.specs.Lists.{here, all_tail}
 use Rattle.theory.specs.Rising.{All}
 use Rattle.theory.specs.Tests.{split}
 use Rattle.theory.specs.View.{view}
-use Rattle.theory.specs.View.Entries.{at-run}
-use Rattle.theory.specs.View.Laws.{view-at}
+use Rattle.theory.proofs.View.Entries.{at-run}
+use Rattle.theory.proofs.View.Laws.{view-at}
 use Rattle.theory.specs.Places.{count}
 use Rattle.tray.specs.Frame.{run_count}
 use Rattle.tray.specs.Meaning.{runs_of}

@@ -8,9 +8,9 @@ use mathlib.Core.List.Memᴰ
 use mathlib.Core.List.{List, [], ◌∷◌, ◌++◌, map-append, append_assoc}
 use Rattle.theory.specs.Lists.{here, all_nil}
 use Rattle.theory.specs.Rising.{Mem, All}
-use Rattle.theory.specs.Rising.Laws.{rises-across}
+use Rattle.theory.proofs.Rising.Laws.{rises-across}
 use Rattle.theory.specs.View.{rank, view}
-use Rattle.theory.specs.View.Laws.{view-rises}
+use Rattle.theory.proofs.View.Laws.{view-rises}
 use Rattle.tray.specs.Frame.{run_count}
 use Rattle.tray.specs.Meaning.{runs_of}
 use Rattle.index.specs.Layout.{size_of, segment_count, segment_at, anchor_from, segment_from, segment_of}

@@ -4,7 +4,7 @@ use Prim.Native.Nat.{◌+◌, ◌*◌}
 use mathlib.Core.Path.{refl, sym}
 use Rattle.number.proofs.Known.{bytes-known}
 use Rattle.build_segment.specs.Segment.Loops.{merging-none, merging-low, merging-end, merging-less, merging-more, sounded-ready, sounded-fits, sounded-reading, front_long, front-back}
-use Rattle.build_spec.specs.Build.Bytes.{cuts-few}
+use Rattle.build_spec.proofs.Build.Bytes.{cuts-few}
 use native.Mathlib.Omega.{arith}
 use Rattle.build.proofs.segments.count_segments.Goals as goal
 

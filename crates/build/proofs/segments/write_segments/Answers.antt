@@ -2,7 +2,7 @@
 -- Measure: the records left.
 use mathlib.Core.Path.{refl, sym}
 use Rattle.number.proofs.Known.{bytes-known}
-use Rattle.build_spec.specs.Build.Bytes.{cuts-few}
+use Rattle.build_spec.proofs.Build.Bytes.{cuts-few}
 use Rattle.build_segment.specs.Segment.Loops.{merging-low, merging-end, merging-less, writing-none, writing-room, writing-end, writing_more, lent-long, lent_back, sounded-ready, sounded-fits, sounded-reading}
 use native.Mathlib.Omega.{arith}
 use Rattle.build.proofs.segments.write_segments.Goals as goal

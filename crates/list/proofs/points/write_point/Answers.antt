@@ -3,7 +3,7 @@ use Prim.Native.Nat.{ℕ}
 use mathlib.Core.List.{List}
 use mathlib.Core.Path.{ap, ◌∙◌}
 use Rattle.number.specs.Big.{put}
-use Rattle.tray.specs.Frame.Code.{cut}
+use Rattle.tray.proofs.FrameCode.{cut}
 use Rattle.tray.specs.Run.{record_at}
 use Rattle.walk.specs.Reads.{listed_bytes}
 use native.Mathlib.Omega.{arith}

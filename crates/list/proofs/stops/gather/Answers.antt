@@ -1,7 +1,7 @@
 -- `list::stops::gather` meets its contract. Invariant: what is gathered, with what is still to come, is all that is to be gathered. Measure: the
 -- selectors left.
 use mathlib.Core.Path.{refl, ◌∙◌}
-use Rattle.tray.specs.Frame.Code.{cut}
+use Rattle.tray.proofs.FrameCode.{cut}
 use Rattle.walk.specs.Code.{length-places, places-room}
 use Rattle.walk.specs.Code.Turns.{within, selector-is}
 use Rattle.list.specs.Stops.Code.{unmarked-le, gathering-first, gathering-pass, gathering-names, gathered-past, gathered-no-run, gathered-all}

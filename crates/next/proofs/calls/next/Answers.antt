@@ -1,6 +1,6 @@
 -- `next::calls::next` meets its contract.
 use mathlib.Core.Path.{sym, ◌∙◌}
-use Rattle.tray.specs.Frame.Code.{opened}
+use Rattle.tray.proofs.FrameCode.{opened}
 use Rattle.index.specs.Layout.Code.{laid}
 use Rattle.answers.specs.Next.{refused_next, next_answer}
 use Rattle.answers.specs.Code.{frames-tray, frames-index, frames-fit}

@@ -1,6 +1,6 @@
 -- `seek::get::get` meets its contract.
 use mathlib.Core.Path.{sym, ap, ◌∙◌}
-use Rattle.tray.specs.Frame.Code.{opened}
+use Rattle.tray.proofs.FrameCode.{opened}
 use Rattle.index.specs.Layout.Code.{laid}
 use Rattle.answers.specs.Get.{refused_get, get_answer, get_framed}
 use Rattle.answers.specs.Code.{frames-tray, frames-index, frames-fit}

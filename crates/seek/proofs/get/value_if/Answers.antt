@@ -5,7 +5,7 @@ use mathlib.Core.List.{List}
 use Prim.Native.Nat.{ℕ}
 use Rattle.number.specs.Big.{bytes_of}
 use Rattle.tray.specs.Run.{record_at}
-use Rattle.tray.specs.Frame.Code.{cut}
+use Rattle.tray.proofs.FrameCode.{cut}
 use native.Mathlib.Omega.{arith}
 use Rattle.seek.proofs.get.value_if.Goals as goal
 

@@ -1,5 +1,5 @@
 -- `tray::frame::header_fits` meets its contract: each way out is a test of the header, in its order.
-use Rattle.tray.specs.Frame.Code.{header-short, header-none, header-many, header-1, header-2, header-3}
+use Rattle.tray.proofs.FrameCode.{header-short, header-none, header-many, header-1, header-2, header-3}
 use native.Mathlib.Omega.{arith}
 use Rattle.tray.proofs.frame.header_fits.Goals as goal
 

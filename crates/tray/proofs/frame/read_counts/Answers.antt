@@ -1,6 +1,6 @@
 -- `tray::frame::read_counts` meets its contract. Invariant: the counts before run r fit, and they and the starts up to run r are found.
 -- Measure: the runs left.
-use Rattle.tray.specs.Frame.Code.{read-counts-none, read-counts-more, read-counts-over, read-counts-all}
+use Rattle.tray.proofs.FrameCode.{read-counts-none, read-counts-more, read-counts-over, read-counts-all}
 use lib.ListN.{replicate}
 use Prim.Native.Nat.{ℕ, ◌+◌, ◌*◌}
 use mathlib.Core.Path.{refl, ap}

@@ -1,4 +1,4 @@
-use Rattle.tray.specs.Frame.Code.{Counted}
+use Rattle.tray.proofs.FrameCode.{Counted}
 use lib.ListN.{get_or}
 use Prim.Native.Nat.{◌-◌}
 use mathlib.Core.Path.{◌≡◌}

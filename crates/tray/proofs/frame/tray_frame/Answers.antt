@@ -1,5 +1,5 @@
 -- `tray::frame::tray_frame` meets its contract: the header decides whether the counts are read.
-use Rattle.tray.specs.Frame.Code.{header_is, header-wrong}
+use Rattle.tray.proofs.FrameCode.{header_is, header-wrong}
 use mathlib.Core.Path.{sym, ◌∙◌}
 use Rattle.tray.proofs.frame.tray_frame.Goals as goal
 

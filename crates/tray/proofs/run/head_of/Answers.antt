@@ -3,7 +3,7 @@ use Rattle.tray.specs.Run.{record_at}
 use Prim.Native.Nat.{ℕ}
 use mathlib.Core.List.{List}
 use mathlib.Core.Path.{ap, ◌∙◌}
-use Rattle.tray.specs.Frame.Code.{cut}
+use Rattle.tray.proofs.FrameCode.{cut}
 use native.Mathlib.Omega.{arith}
 use Rattle.tray.proofs.run.head_of.Goals as goal
 

@@ -1,6 +1,6 @@
 -- `tray::run::value_at` meets its contract: a value is written by its halves.
 use mathlib.Core.Path.{refl}
-use Rattle.tray.specs.Run.Code.{value-is}
+use Rattle.tray.proofs.RunCode.{value-is}
 use native.Mathlib.Omega.{arith}
 use Rattle.tray.proofs.run.value_at.Goals as goal
 

@@ -1,6 +1,6 @@
 -- `tray_check::run::check_run` meets its contract. Invariant: the records before place p are right, and what is left to judge answers for the whole
 -- run. Measure: the records left. Each way out, and each turn, is a law of `Run/Code`.
-use Rattle.tray.specs.Run.Code.{last-next, run-kind, run-key, run-next, run-live, last_none}
+use Rattle.tray.proofs.RunCode.{last-next, run-kind, run-key, run-next, run-live, last_none}
 use Rattle.tray.specs.Run.Laws.{judge-end}
 use native.Mathlib.Nat.{sub-zero}
 use mathlib.Core.Path.{refl, sym, ◌∙◌}

@@ -1,4 +1,4 @@
-use Rattle.tray.specs.Run.Code.{Last}
+use Rattle.tray.proofs.RunCode.{Last}
 use Rattle.tray.specs.Run.{judge_from}
 use mathlib.Core.List.{List}
 use Prim.Native.Nat.{ℕ, ◌*◌, ◌-◌, ◌≤◌}

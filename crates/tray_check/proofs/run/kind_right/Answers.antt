@@ -1,5 +1,5 @@
 -- `tray_check::run::kind_right` meets its contract: each way out is a case of the kind byte.
-use Rattle.tray.specs.Run.Code.{kind-live, kind-gone, kind-other}
+use Rattle.tray.proofs.RunCode.{kind-live, kind-gone, kind-other}
 use Rattle.tray_check.proofs.run.kind_right.Goals as goal
 
 pub returns-then-kind-eq0 : goal.returns-then-kind-eq0

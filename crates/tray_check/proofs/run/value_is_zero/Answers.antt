@@ -1,5 +1,5 @@
 -- `tray_check::run::value_is_zero` meets its contract: sixteen bytes are zero where both halves are.
-use Rattle.tray.specs.Run.Code.{zero-value-high, zero-value-low}
+use Rattle.tray.proofs.RunCode.{zero-value-high, zero-value-low}
 use Prim.Native.Nat.{ℕ}
 use lib.Dec.{eqb}
 use mathlib.Core.Path.{sym, ap, ◌∙◌}

@@ -1,0 +1,3 @@
+-- Laws of the definitions in specs/.
+-- the end of an input
+pub mod Finishes

@@ -1,0 +1,3 @@
+-- Laws of the definitions in specs/, and what follows from them.
+-- what follows from `specs/Fold.antt`
+pub mod Fold

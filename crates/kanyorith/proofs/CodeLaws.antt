@@ -1,0 +1,2 @@
+-- What follows from the definitions of `specs/Code.antt`.
+pub mod Narrow

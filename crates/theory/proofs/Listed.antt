@@ -1,0 +1,2 @@
+-- What follows from the definitions of `specs/Listed.antt`.
+pub mod Laws

@@ -1,0 +1,4 @@
+-- What follows from the definitions of `specs/Pack.antt`.
+mod Cases
+pub mod Groups
+pub mod Laws

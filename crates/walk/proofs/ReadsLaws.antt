@@ -1,0 +1,5 @@
+-- What follows from the definitions of `specs/Reads.antt`.
+pub mod Page
+pub mod Pages
+pub mod Sheet
+pub mod Prefix
