@@ -1,5 +1,3 @@
 -- Laws of the definitions in specs/, and what follows from them.
 -- what follows from `specs/Code.antt`
 pub mod CodeLaws
--- the theorems: the file to open first
-pub mod Theorems

@@ -28,7 +28,8 @@ use Rattle.answers.specs.Page.{refused_page, page_told as page_by, page_left, pa
 use Rattle.answers.specs.Sheet.{records_of, sheet_answer, sheet_leaves}
 use Rattle.theorems.specs.Told.{page_told, sheet_told}
 use Rattle.theorems.specs.Told.Laws.{refused-above, sheet-zero}
-use Rattle.theorems.proofs.Exactly.Quick.{Lists, to-bound, to_end, SheetSays, sheet-1, sheet-4, sheet-8, sheet-9, sheet-10, sheet-7, sheet-0, sheet-exactly}
+use Rattle.theorems.specs.Exactly.Quick.{Lists, to-bound, to_end, SheetSays, sheet-1, sheet-4, sheet-8, sheet-9, sheet-10, sheet-7, sheet-0}
+use Rattle.theorems.proofs.Exactly.Quick.{sheet-exactly}
 use Rattle.kanyorith.specs.Walks.{Ends, at-stay, at-end, at-loss, Kept, Filled, page-holds}
 
 module _ (t x : List ℕ) (c : Cursor) (out : List ℕ) where

@@ -1,4 +1,6 @@
 -- What the public calls promise, and what follows from it.
+-- the theorems: the file to open first
+pub mod Theorems
 -- a promise for each call
 pub mod Promises
 -- reading through an accepted index

@@ -60,7 +60,8 @@ use Rattle.answers.specs.Sheet.{prefix_long, prefix_last, listed_in, sheet_answe
 use Rattle.theorems.specs.Paged.{PageCalls, last-page, page-then, calls-pages, pages-from}
 use Rattle.theorems.specs.Read.{onward, get-answers, fits-frames, onward-are, prefixed, sheet_of, sheet-answers, sheet-records}
 use Rattle.theorems.specs.Told.{get_told, seek_told, page_told, sheet_told}
-use Rattle.theorems.proofs.Exactly.Quick.{NextSays, next-1, next-4, next-11, next-10, next-found, next-end as next-end-0, next-exactly, PageSays, page-1, page-4, page-11, page-10, page-more as page-more-1, page-end as page-end-0, page-exactly}
+use Rattle.theorems.specs.Exactly.Quick.{NextSays, next-1, next-4, next-11, next-10, next-found, next-end as next-end-0, PageSays, page-1, page-4, page-11, page-10, page-more as page-more-1, page-end as page-end-0}
+use Rattle.theorems.proofs.Exactly.Quick.{next-exactly, page-exactly}
 use Rattle.theorems.specs.Told.Laws.{not-zero, index-zero, page-more, page-end}
 use Rattle.kanyorith.specs.Promises.{CheckIndex, value_left, Get, run_left, place_left, cursor_left, Sought, Seek, Next, page_cursor_left, Page, Sheet}
 

@@ -9,6 +9,7 @@
 --     PageSays, page-exactly        page: 1, 4, 11, 10
 --     SheetSays, sheet-exactly      sheet: 1, 4, 8, 9, 10, 7
 --     FoldSays, fold-exactly        fold: 1, 8, 3/2, 12, 7
+pub mod Quick
 use Rattle.std.specs.Prelude.{◌≡◌, ◌↔◌, ◌⊎◌, ℕ, ◌≤◌, ◌<◌, List, length}
 use Rattle.std.proofs.Math.Path.{refl, sym, subst}
 use Rattle.std.proofs.Common.{ap, ◌∙◌, arith}

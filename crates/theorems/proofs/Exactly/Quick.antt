@@ -1,11 +1,6 @@
--- The same of the quick calls, which ask 1, then 4, and then follow the walk (docs/RULES.md, "Reading through an index"). The walk is the definition's:
--- it stays at a record, comes to the end, or is lost at a selector of a segment.
---     Fits, frames-by, off-1, off-4, on     both frames
---     GetSays, get-exactly          get: 1, 4, 10
---     SeekSays, seek-exactly        seek: 1, 4, 10
---     NextSays, next-exactly        next: 1, 4, 11, 10
---     PageSays, page-exactly        page: 1, 4, 11, 10
---     SheetSays, sheet-exactly      sheet: 1, 4, 8, 9, 10, 7
+-- That the tables of `specs/Exactly/Quick.antt` say what the quick calls answer, and nothing else.
+--     frames-by, off-1, off-4, on     both frames
+--     get-exactly, seek-exactly, next-exactly, page-exactly, sheet-exactly     a table each
 use Rattle.std.specs.Prelude.{◌≡◌, refl, ◌↔◌, ◌⊎◌, true, false, List, get_or, eqb, leb}
 use Rattle.std.proofs.Math.Path.{sym, ap}
 use Rattle.std.proofs.Common.{◌∙◌, arith}
@@ -42,16 +37,12 @@ use Rattle.answers.specs.declared.SheetAnswer.TheVariants.{Refused as SheetRefus
 use Rattle.answers.specs.Sheet.{prefix_long, prefix_last, listed_in, sheet_told as sheet_by, sheet_framed, sheet_answer}
 use Rattle.theorems.specs.Told.{get_told, seek_told, page_told, sheet_told}
 use Rattle.theorems.specs.Exactly.{exactly-by}
+use Rattle.theorems.specs.Exactly.Quick.{Fits, SeekSays, GetSays, NextSays, PageSays, Prefix, Lists, SheetSays, seek-1, seek-4, seek-10, seek_found, seek-end, get-1, get-4, get-10, get-found, get_other, get-end, next-1, next-4, next-11, next-10, next-found, next-end, page-1, page-4, page-11, page-10, page-more, page-end, sheet-1, sheet-4, sheet-8, sheet-9, sheet-10, sheet-7, sheet-0, to-bound, to_end}
 
 module _ (t x : List ℕ) where
-  -- both frames fit
-  pub record Fits : Type 0 where
-    pub tray : Framed t
-    pub index : IndexFramed (run_count t) x
-
   -- what holds of 1, of 4, and where both frames fit, holds of the answer
   frames-by : {A : Type 0} (P : A → Type 0) (refused : Refusal → A) (fits : A) → ((Framed t → ⊥) → P (refused TrayFrame))
-      → (Framed t → (IndexFramed (run_count t) x → ⊥) → P (refused IndexFrame)) → (Fits → P fits) → P (in_frames refused t x fits)
+      → (Framed t → (IndexFramed (run_count t) x → ⊥) → P (refused IndexFrame)) → (Fits t x → P fits) → P (in_frames refused t x fits)
   unfolding in_frames
   frames-by P refused fits one four on =
       split P (framed t)
@@ -68,7 +59,7 @@ module _ (t x : List ℕ) where
   unfolding in_frames
   off-4 refused fits f w = rw (fits-framed t f) (cases (index_framed (run_count t) x) (λ y. absurd (w (index-fits (run_count t) x y))) (λ n. rw n))
 
-  on : {A : Type 0} (refused : Refusal → A) (fits : A) → Fits → in_frames refused t x fits ≡ fits
+  on : {A : Type 0} (refused : Refusal → A) (fits : A) → Fits t x → in_frames refused t x fits ≡ fits
   unfolding in_frames
   on refused fits f = rw (fits-framed t f.tray, fits-index (run_count t) x f.index)
 
@@ -76,37 +67,24 @@ module _ (t x : List ℕ) where
     abbrev sought : ℕ
     sought = be 8 key 0
 
-    -- seek
-    pub data SeekSays : ℕ → ℕ → Type 0 where
-      -- the tray breaks the header, count or length rules
-      seek-1 : (Framed t → ⊥) → SeekSays 1 0
-      -- the index breaks its frame
-      seek-4 : Framed t → (IndexFramed (run_count t) x → ⊥) → SeekSays 4 0
-      -- the walk is lost at selector s of segment g
-      seek-10 : Fits → (g s k : ℕ) → seek t x (be 8 key 0) ≡ lost g s k → SeekSays 10 (g * 128 + s)
-      -- it stays at a record
-      seek_found : Fits → (f : Found) → seek t x (be 8 key 0) ≡ stayed f → SeekSays 0 1
-      -- it comes to the end
-      seek-end : Fits → (k : ℕ) → seek t x (be 8 key 0) ≡ ended k → SeekSays 0 0
-
-    seek-walked : Fits → (w : Walked ℕ Found) → seek t x sought ≡ w → SeekSays (seek_told (seek_by x w).answer).number (seek_told (seek_by x w).answer).figure
+    seek-walked : Fits t x → (w : Walked ℕ Found) → seek t x sought ≡ w → SeekSays t x key (seek_told (seek_by x w).answer).number (seek_told (seek_by x w).answer).figure
     unfolding seek_told seek_by
     seek-walked f (stayed r) e = seek_found f r e
     seek-walked f (ended k) e = seek-end f k e
     seek-walked f (lost g s k) e = seek-10 f g s k e
 
-    seek-gives : SeekSays (seek_told (seek_answer t x key).answer).number (seek_told (seek_answer t x key).answer).figure
+    seek-gives : SeekSays t x key (seek_told (seek_answer t x key).answer).number (seek_told (seek_answer t x key).answer).figure
     unfolding seek_answer seek_framed seek_told
     seek-gives =
-        frames-by (λ (s : CursorAnswer). SeekSays (seek_told s.answer).number (seek_told s.answer).figure) refused_seek (seek_framed t x sought)
+        frames-by (λ (s : CursorAnswer). SeekSays t x key (seek_told s.answer).number (seek_told s.answer).figure) refused_seek (seek_framed t x sought)
         (λ w. seek-1 w) (λ f w. seek-4 f w) (λ f. seek-walked f (seek t x sought) refl)
 
-    seek-on : Fits → (w : Walked ℕ Found) → seek t x sought ≡ w → seek_told (seek_by x w).answer ≡ seek_told (seek_answer t x key).answer
+    seek-on : Fits t x → (w : Walked ℕ Found) → seek t x sought ≡ w → seek_told (seek_by x w).answer ≡ seek_told (seek_answer t x key).answer
     unfolding seek_answer seek_framed
     seek-on f w e =
         sym (ap (λ (s : CursorAnswer). seek_told s.answer) (on refused_seek (seek_framed t x sought) f) ∙ ap (λ (v : Walked ℕ Found). seek_told (seek_by x v).answer) e)
 
-    seek-alone : (n f : ℕ) → SeekSays n f → told n f ≡ seek_told (seek_answer t x key).answer
+    seek-alone : (n f : ℕ) → SeekSays t x key n f → told n f ≡ seek_told (seek_answer t x key).answer
     unfolding seek_told seek_by seek_answer
     seek-alone _ _ (seek-1 w) = sym (ap (λ (s : CursorAnswer). seek_told s.answer) (off-1 refused_seek (seek_framed t x sought) w))
     seek-alone _ _ (seek-4 f w) = sym (ap (λ (s : CursorAnswer). seek_told s.answer) (off-4 refused_seek (seek_framed t x sought) f w))
@@ -114,39 +92,29 @@ module _ (t x : List ℕ) where
     seek-alone _ _ (seek_found f r e) = seek-on f (stayed r) e
     seek-alone _ _ (seek-end f k e) = seek-on f (ended k) e
 
-    pub seek-exactly : (n f : ℕ) → (told n f ≡ seek_told (seek_answer t x key).answer) ↔ SeekSays n f
-    seek-exactly = exactly-by SeekSays (seek_told (seek_answer t x key).answer) seek-gives seek-alone
-
-    -- get: the record that seek found has the very key
-    pub data GetSays : ℕ → ℕ → Type 0 where
-      get-1 : (Framed t → ⊥) → GetSays 1 0
-      get-4 : Framed t → (IndexFramed (run_count t) x → ⊥) → GetSays 4 0
-      get-10 : Fits → (g s k : ℕ) → seek t x (be 8 key 0) ≡ lost g s k → GetSays 10 (g * 128 + s)
-      get-found : Fits → (f : Found) → seek t x (be 8 key 0) ≡ stayed f → (record_at (run_bytes t f.run) f.place).key ≡ be 8 key 0 → GetSays 0 1
-      -- it has another, or there is none
-      get_other : Fits → (f : Found) → seek t x (be 8 key 0) ≡ stayed f → ((record_at (run_bytes t f.run) f.place).key ≡ be 8 key 0 → ⊥) → GetSays 0 0
-      get-end : Fits → (k : ℕ) → seek t x (be 8 key 0) ≡ ended k → GetSays 0 0
+    pub seek-exactly : (n f : ℕ) → (told n f ≡ seek_told (seek_answer t x key).answer) ↔ SeekSays t x key n f
+    seek-exactly = exactly-by (SeekSays t x key) (seek_told (seek_answer t x key).answer) seek-gives seek-alone
 
     abbrev got_by : Walked ℕ Found → Verdict
     got_by w = get_told (got_told (got_from t sought w)).answer
 
-    get-walked : Fits → (w : Walked ℕ Found) → seek t x sought ≡ w → GetSays (got_by w).number (got_by w).figure
+    get-walked : Fits t x → (w : Walked ℕ Found) → seek t x sought ≡ w → GetSays t x key (got_by w).number (got_by w).figure
     unfolding get_told got_told got_from
     get-walked f (stayed r) e =
-        split (λ (g : Got). GetSays (get_told (got_told g).answer).number (get_told (got_told g).answer).figure)
+        split (λ (g : Got). GetSays t x key (get_told (got_told g).answer).number (get_told (got_told g).answer).figure)
         (eqb (record_at (run_bytes t r.run) r.place).key sought)
         (λ y. get-found f r e (eqb-true _ _ y))
         (λ n. get_other f r e (eqb-false _ _ n))
     get-walked f (ended k) e = get-end f k e
     get-walked f (lost g s k) e = get-10 f g s k e
 
-    get-gives : GetSays (get_told (get_answer t x key).answer).number (get_told (get_answer t x key).answer).figure
+    get-gives : GetSays t x key (get_told (get_answer t x key).answer).number (get_told (get_answer t x key).answer).figure
     unfolding get_answer get_framed get_told get
     get-gives =
-        frames-by (λ (s : ValueAnswer). GetSays (get_told s.answer).number (get_told s.answer).figure) refused_get (get_framed t x sought)
+        frames-by (λ (s : ValueAnswer). GetSays t x key (get_told s.answer).number (get_told s.answer).figure) refused_get (get_framed t x sought)
         (λ w. get-1 w) (λ f w. get-4 f w) (λ f. get-walked f (seek t x sought) refl)
 
-    get-on : Fits → (w : Walked ℕ Found) → seek t x sought ≡ w → got_by w ≡ get_told (get_answer t x key).answer
+    get-on : Fits t x → (w : Walked ℕ Found) → seek t x sought ≡ w → got_by w ≡ get_told (get_answer t x key).answer
     unfolding get_answer get_framed get
     get-on f w e = sym (ap (λ (s : ValueAnswer). get_told s.answer) (on refused_get (get_framed t x sought) f) ∙ ap got_by e)
 
@@ -159,7 +127,7 @@ module _ (t x : List ℕ) where
     unfolding get_told got_told got_from
     stays-off r z = rw (ne_eqb _ _ z)
 
-    get-alone : (n f : ℕ) → GetSays n f → told n f ≡ get_told (get_answer t x key).answer
+    get-alone : (n f : ℕ) → GetSays t x key n f → told n f ≡ get_told (get_answer t x key).answer
     unfolding get_told got_told got_from get_answer
     get-alone _ _ (get-1 w) = sym (ap (λ (s : ValueAnswer). get_told s.answer) (off-1 refused_get (get_framed t x sought) w))
     get-alone _ _ (get-4 f w) = sym (ap (λ (s : ValueAnswer). get_told s.answer) (off-4 refused_get (get_framed t x sought) f w))
@@ -168,33 +136,23 @@ module _ (t x : List ℕ) where
     get-alone _ _ (get_other f r e z) = sym (stays-off r z) ∙ get-on f (stayed r) e
     get-alone _ _ (get-end f k e) = get-on f (ended k) e
 
-    pub get-exactly : (n f : ℕ) → (told n f ≡ get_told (get_answer t x key).answer) ↔ GetSays n f
-    get-exactly = exactly-by GetSays (get_told (get_answer t x key).answer) get-gives get-alone
+    pub get-exactly : (n f : ℕ) → (told n f ≡ get_told (get_answer t x key).answer) ↔ GetSays t x key n f
+    get-exactly = exactly-by (GetSays t x key) (get_told (get_answer t x key).answer) get-gives get-alone
 
   module _ (c : Cursor) where
-    -- next
-    pub data NextSays : ℕ → ℕ → Type 0 where
-      next-1 : (Framed t → ⊥) → NextSays 1 0
-      next-4 : Framed t → (IndexFramed (run_count t) x → ⊥) → NextSays 4 0
-      -- the cursor does not belong
-      next-11 : Fits → belongs (run_count t) x (spot_of c) ≡ false → NextSays 11 c.segment.0
-      next-10 : Fits → belongs (run_count t) x (spot_of c) ≡ true → (g s k : ℕ) → next t x (spot_of c) ≡ lost g s k → NextSays 10 (g * 128 + s)
-      next-found : Fits → belongs (run_count t) x (spot_of c) ≡ true → (f : Found) → next t x (spot_of c) ≡ stayed f → NextSays 0 1
-      next-end : Fits → belongs (run_count t) x (spot_of c) ≡ true → (k : ℕ) → next t x (spot_of c) ≡ ended k → NextSays 0 0
-
-    next-walked : Fits → belongs (run_count t) x (spot_of c) ≡ true → (w : Walked ℕ Found) → next t x (spot_of c) ≡ w
-        → NextSays (seek_told (next_told x c w).answer).number (seek_told (next_told x c w).answer).figure
+    next-walked : Fits t x → belongs (run_count t) x (spot_of c) ≡ true → (w : Walked ℕ Found) → next t x (spot_of c) ≡ w
+        → NextSays t x c (seek_told (next_told x c w).answer).number (seek_told (next_told x c w).answer).figure
     unfolding seek_told next_told
     next-walked f b (stayed r) e = next-found f b r e
     next-walked f b (ended k) e = next-end f b k e
     next-walked f b (lost g s k) e = next-10 f b g s k e
 
-    next-gives : NextSays (seek_told (next_answer t x c).answer).number (seek_told (next_answer t x c).answer).figure
+    next-gives : NextSays t x c (seek_told (next_answer t x c).answer).number (seek_told (next_answer t x c).answer).figure
     unfolding next_answer next_framed seek_told
     next-gives =
-        frames-by (λ (s : CursorAnswer). NextSays (seek_told s.answer).number (seek_told s.answer).figure) (refused_next c) (next_framed t x c)
+        frames-by (λ (s : CursorAnswer). NextSays t x c (seek_told s.answer).number (seek_told s.answer).figure) (refused_next c) (next_framed t x c)
         (λ w. next-1 w) (λ f w. next-4 f w)
-        (λ f. split (λ (s : CursorAnswer). NextSays (seek_told s.answer).number (seek_told s.answer).figure) (belongs (run_count t) x (spot_of c))
+        (λ f. split (λ (s : CursorAnswer). NextSays t x c (seek_told s.answer).number (seek_told s.answer).figure) (belongs (run_count t) x (spot_of c))
         (λ b. next-walked f b (next t x (spot_of c)) refl) (λ n. next-11 f n))
 
     next-belongs : belongs (run_count t) x (spot_of c) ≡ true → next_framed t x c ≡ next_told x c (next t x (spot_of c))
@@ -205,13 +163,13 @@ module _ (t x : List ℕ) where
     unfolding next_framed
     next-not n = rw n
 
-    next-on : Fits → belongs (run_count t) x (spot_of c) ≡ true → (w : Walked ℕ Found) → next t x (spot_of c) ≡ w
+    next-on : Fits t x → belongs (run_count t) x (spot_of c) ≡ true → (w : Walked ℕ Found) → next t x (spot_of c) ≡ w
         → seek_told (next_told x c w).answer ≡ seek_told (next_answer t x c).answer
     unfolding next_answer
     next-on f b w e =
         sym (ap (λ (s : CursorAnswer). seek_told s.answer) (on (refused_next c) (next_framed t x c) f ∙ next-belongs b ∙ ap (next_told x c) e))
 
-    next-alone : (n f : ℕ) → NextSays n f → told n f ≡ seek_told (next_answer t x c).answer
+    next-alone : (n f : ℕ) → NextSays t x c n f → told n f ≡ seek_told (next_answer t x c).answer
     unfolding seek_told next_told next_answer
     next-alone _ _ (next-1 w) = sym (ap (λ (s : CursorAnswer). seek_told s.answer) (off-1 (refused_next c) (next_framed t x c) w))
     next-alone _ _ (next-4 f w) = sym (ap (λ (s : CursorAnswer). seek_told s.answer) (off-4 (refused_next c) (next_framed t x c) f w))
@@ -220,33 +178,23 @@ module _ (t x : List ℕ) where
     next-alone _ _ (next-found f b r e) = next-on f b (stayed r) e
     next-alone _ _ (next-end f b k e) = next-on f b (ended k) e
 
-    pub next-exactly : (n f : ℕ) → (told n f ≡ seek_told (next_answer t x c).answer) ↔ NextSays n f
-    next-exactly = exactly-by NextSays (seek_told (next_answer t x c).answer) next-gives next-alone
+    pub next-exactly : (n f : ℕ) → (told n f ≡ seek_told (next_answer t x c).answer) ↔ NextSays t x c n f
+    next-exactly = exactly-by (NextSays t x c) (seek_told (next_answer t x c).answer) next-gives next-alone
 
     module _ (out : List ℕ) where
-      -- page
-      pub data PageSays : ℕ → ℕ → Type 0 where
-        page-1 : (Framed t → ⊥) → PageSays 1 0
-        page-4 : Framed t → (IndexFramed (run_count t) x → ⊥) → PageSays 4 0
-        page-11 : Fits → belongs (run_count t) x (spot_of c) ≡ false → PageSays 11 c.segment.0
-        page-10 : Fits → belongs (run_count t) x (spot_of c) ≡ true → (g s : ℕ) (w : Written) → page t x (spot_of c) out ≡ lost g s w → PageSays 10 (g * 128 + s)
-        -- the walk stays at a record that has no room
-        page-more : Fits → belongs (run_count t) x (spot_of c) ≡ true → (w : Written × Spot) → page t x (spot_of c) out ≡ stayed w → PageSays 0 1
-        page-end : Fits → belongs (run_count t) x (spot_of c) ≡ true → (w : Written) → page t x (spot_of c) out ≡ ended w → PageSays 0 0
-
-      page-walked : Fits → belongs (run_count t) x (spot_of c) ≡ true → (w : Walked Written (Written × Spot)) → page t x (spot_of c) out ≡ w
-          → PageSays (page_told (page_by x c w).answer).number (page_told (page_by x c w).answer).figure
+      page-walked : Fits t x → belongs (run_count t) x (spot_of c) ≡ true → (w : Walked Written (Written × Spot)) → page t x (spot_of c) out ≡ w
+          → PageSays t x c out (page_told (page_by x c w).answer).number (page_told (page_by x c w).answer).figure
       unfolding page_told page_by
       page-walked f b (stayed w) e = page-more f b w e
       page-walked f b (ended w) e = page-end f b w e
       page-walked f b (lost g s w) e = page-10 f b g s w e
 
-      page-gives : PageSays (page_told (page_answer t x c out).answer).number (page_told (page_answer t x c out).answer).figure
+      page-gives : PageSays t x c out (page_told (page_answer t x c out).answer).number (page_told (page_answer t x c out).answer).figure
       unfolding page_answer page_framed page_told
       page-gives =
-          frames-by (λ (p : PagedAnswer). PageSays (page_told p.answer).number (page_told p.answer).figure) (refused_page c) (page_framed t x c out)
+          frames-by (λ (p : PagedAnswer). PageSays t x c out (page_told p.answer).number (page_told p.answer).figure) (refused_page c) (page_framed t x c out)
           (λ w. page-1 w) (λ f w. page-4 f w)
-          (λ f. split (λ (p : PagedAnswer). PageSays (page_told p.answer).number (page_told p.answer).figure) (belongs (run_count t) x (spot_of c))
+          (λ f. split (λ (p : PagedAnswer). PageSays t x c out (page_told p.answer).number (page_told p.answer).figure) (belongs (run_count t) x (spot_of c))
           (λ b. page-walked f b (page t x (spot_of c) out) refl) (λ n. page-11 f n))
 
       page-belongs : belongs (run_count t) x (spot_of c) ≡ true → page_framed t x c out ≡ page_by x c (page t x (spot_of c) out)
@@ -257,13 +205,13 @@ module _ (t x : List ℕ) where
       unfolding page_framed
       page-not n = rw n
 
-      page-on : Fits → belongs (run_count t) x (spot_of c) ≡ true → (w : Walked Written (Written × Spot)) → page t x (spot_of c) out ≡ w
+      page-on : Fits t x → belongs (run_count t) x (spot_of c) ≡ true → (w : Walked Written (Written × Spot)) → page t x (spot_of c) out ≡ w
           → page_told (page_by x c w).answer ≡ page_told (page_answer t x c out).answer
       unfolding page_answer
       page-on f b w e =
           sym (ap (λ (p : PagedAnswer). page_told p.answer) (on (refused_page c) (page_framed t x c out) f ∙ page-belongs b ∙ ap (page_by x c) e))
 
-      page-alone : (n f : ℕ) → PageSays n f → told n f ≡ page_told (page_answer t x c out).answer
+      page-alone : (n f : ℕ) → PageSays t x c out n f → told n f ≡ page_told (page_answer t x c out).answer
       unfolding page_told page_by page_answer
       page-alone _ _ (page-1 w) = sym (ap (λ (p : PagedAnswer). page_told p.answer) (off-1 (refused_page c) (page_framed t x c out) w))
       page-alone _ _ (page-4 f w) = sym (ap (λ (p : PagedAnswer). page_told p.answer) (off-4 (refused_page c) (page_framed t x c out) f w))
@@ -272,43 +220,19 @@ module _ (t x : List ℕ) where
       page-alone _ _ (page-more f b w e) = page-on f b (stayed w) e
       page-alone _ _ (page-end f b w e) = page-on f b (ended w) e
 
-      pub page-exactly : (n f : ℕ) → (told n f ≡ page_told (page_answer t x c out).answer) ↔ PageSays n f
-      page-exactly = exactly-by PageSays (page_told (page_answer t x c out).answer) page-gives page-alone
+      pub page-exactly : (n f : ℕ) → (told n f ≡ page_told (page_answer t x c out).answer) ↔ PageSays t x c out n f
+      page-exactly = exactly-by (PageSays t x c out) (page_told (page_answer t x c out).answer) page-gives page-alone
 
   module _ (prefix : List ℕ) (room : ℕ) where
-    -- a prefix of 1 to 8 bytes whose last is below 255
-    pub record Prefix : Type 0 where
-      pub some : 1 ≤ length prefix
-      pub most : length prefix ≤ 8
-      pub last : get_or prefix (length prefix - 1) 0 ≡ 255 → ⊥
-
-    -- the walk of a sheet lists these records: it comes to its bound or to the end
-    pub data Lists (es : List Record) : Type 0 where
-      to-bound : sheet t x prefix ≡ stayed es → Lists es
-      to_end : sheet t x prefix ≡ ended es → Lists es
-
-    -- sheet
-    pub data SheetSays : ℕ → ℕ → Type 0 where
-      sheet-1 : (Framed t → ⊥) → SheetSays 1 0
-      sheet-4 : Framed t → (IndexFramed (run_count t) x → ⊥) → SheetSays 4 0
-      -- a prefix of 0 or over 8 bytes
-      sheet-8 : Fits → (length prefix ≡ 0) ⊎ (8 < length prefix) → SheetSays 8 (length prefix)
-      -- its last byte is 255
-      sheet-9 : Fits → 1 ≤ length prefix → length prefix ≤ 8 → get_or prefix (length prefix - 1) 0 ≡ 255 → SheetSays 9 (length prefix)
-      sheet-10 : Fits → Prefix → (g s : ℕ) (es : List Record) → sheet t x prefix ≡ lost g s es → SheetSays 10 (g * 128 + s)
-      -- the listing is longer than the output
-      sheet-7 : Fits → Prefix → (es : List Record) → Lists es → room < 24 * length es → SheetSays 7 (24 * length es)
-      sheet-0 : Fits → Prefix → (es : List Record) → Lists es → 24 * length es ≤ room → SheetSays 0 (length es)
-
     abbrev sheet_is : SheetAnswer → Type 0
-    sheet_is a = SheetSays (sheet_told a).number (sheet_told a).figure
+    sheet_is a = SheetSays t x prefix room (sheet_told a).number (sheet_told a).figure
 
-    sheet-listed : Fits → Prefix → (es : List Record) → Lists es → sheet_is (listed_in room es)
+    sheet-listed : Fits t x → Prefix t x prefix room → (es : List Record) → Lists t x prefix room es → sheet_is (listed_in room es)
     unfolding listed_in sheet_told
     sheet-listed f p es w =
         split sheet_is (leb (24 * length es) room) (λ y. sheet-0 f p es w (leb-true _ _ y)) (λ n. sheet-7 f p es w (leb-false _ _ n))
 
-    sheet-walked : Fits → Prefix → (w : Walked (List Record) (List Record)) → sheet t x prefix ≡ w → sheet_is (sheet_by room w)
+    sheet-walked : Fits t x → Prefix t x prefix room → (w : Walked (List Record) (List Record)) → sheet t x prefix ≡ w → sheet_is (sheet_by room w)
     unfolding sheet_by sheet_told
     sheet-walked f p (stayed es) e = sheet-listed f p es (to-bound e)
     sheet-walked f p (ended es) e = sheet-listed f p es (to_end e)
@@ -356,11 +280,11 @@ module _ (t x : List ℕ) where
     unfolding sheet_framed prefix_last
     sheet-last a b e = rw (long-true a b, eq-eqb _ _ e)
 
-    sheet-runs : Prefix → sheet_framed t x prefix room ≡ sheet_by room (sheet t x prefix)
+    sheet-runs : Prefix t x prefix room → sheet_framed t x prefix room ≡ sheet_by room (sheet t x prefix)
     unfolding sheet_framed prefix_last
     sheet-runs p = rw (long-true p.some p.most, ne_eqb _ _ p.last)
 
-    sheet-on : Fits → Prefix → (w : Walked (List Record) (List Record)) → sheet t x prefix ≡ w → sheet_told (sheet_by room w) ≡ sheet_told (sheet_answer t x prefix room)
+    sheet-on : Fits t x → Prefix t x prefix room → (w : Walked (List Record) (List Record)) → sheet t x prefix ≡ w → sheet_told (sheet_by room w) ≡ sheet_told (sheet_answer t x prefix room)
     unfolding sheet_answer
     sheet-on f p w e = sym (ap sheet_told (on SheetRefused (sheet_framed t x prefix room) f ∙ sheet-runs p ∙ ap (sheet_by room) e))
 
@@ -373,12 +297,12 @@ module _ (t x : List ℕ) where
     unfolding listed_in sheet_told
     room-less es l = rw (lt-leb _ _ l)
 
-    lists-on : Fits → Prefix → (es : List Record) → Lists es → sheet_told (listed_in room es) ≡ sheet_told (sheet_answer t x prefix room)
+    lists-on : Fits t x → Prefix t x prefix room → (es : List Record) → Lists t x prefix room es → sheet_told (listed_in room es) ≡ sheet_told (sheet_answer t x prefix room)
     unfolding sheet_by
     lists-on f p es (to-bound e) = sheet-on f p (stayed es) e
     lists-on f p es (to_end e) = sheet-on f p (ended es) e
 
-    sheet-alone : (n f : ℕ) → SheetSays n f → told n f ≡ sheet_told (sheet_answer t x prefix room)
+    sheet-alone : (n f : ℕ) → SheetSays t x prefix room n f → told n f ≡ sheet_told (sheet_answer t x prefix room)
     unfolding sheet_told sheet_by sheet_answer
     sheet-alone _ _ (sheet-1 w) = sym (ap sheet_told (off-1 SheetRefused (sheet_framed t x prefix room) w))
     sheet-alone _ _ (sheet-4 f w) = sym (ap sheet_told (off-4 SheetRefused (sheet_framed t x prefix room) f w))
@@ -388,5 +312,5 @@ module _ (t x : List ℕ) where
     sheet-alone _ _ (sheet-7 f p es w l) = sym (room-less es l) ∙ lists-on f p es w
     sheet-alone _ _ (sheet-0 f p es w l) = sym (room_for es l) ∙ lists-on f p es w
 
-    pub sheet-exactly : (n f : ℕ) → (told n f ≡ sheet_told (sheet_answer t x prefix room)) ↔ SheetSays n f
-    sheet-exactly = exactly-by SheetSays (sheet_told (sheet_answer t x prefix room)) sheet-gives sheet-alone
+    pub sheet-exactly : (n f : ℕ) → (told n f ≡ sheet_told (sheet_answer t x prefix room)) ↔ SheetSays t x prefix room n f
+    sheet-exactly = exactly-by (SheetSays t x prefix room) (sheet_told (sheet_answer t x prefix room)) sheet-gives sheet-alone

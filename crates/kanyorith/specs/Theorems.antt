@@ -50,6 +50,8 @@ use Rattle.index.specs.Layout.{segment_count, segments_of, IndexFramed}
 use Rattle.index.specs.Rules.{key_of, Accepted as Follows}
 use Rattle.index.specs.Check.{check_index_answer}
 use Rattle.index.specs.Check.Theorems.{answers-segments}
+use Rattle.answers.specs.Next.{next_answer}
+use Rattle.answers.specs.Seek.{seek_answer}
 use Rattle.answers.specs.declared.CursorAnswer.{CursorAnswer}
 use Rattle.answers.specs.declared.ValueAnswer.{ValueAnswer}
 use Rattle.walk.specs.Reads.Seek.{points, points-rise as rising-points}
@@ -83,7 +85,8 @@ use Rattle.kanyorith.specs.Folds.{Folds, folds-calls, sound-tray, Unchanged, unc
 use Rattle.kanyorith.specs.Left.{page-kept, refused-page, page-filled, listed-behind}
 use Rattle.theorems.specs.Cursors.{cursor_in}
 use Rattle.theorems.specs.Exactly.{TraySays, tray-exactly, IndexSays, index-0, index-exactly, BuildSays, build-exactly as build-table, FoldSays, fold-exactly as fold-table}
-use Rattle.theorems.proofs.Exactly.Quick.{GetSays, get-exactly as get-table, SeekSays, seek-exactly as seek-table, NextSays, next-exactly as next-table, PageSays, page-exactly as page-table, SheetSays, sheet-exactly as sheet-table}
+use Rattle.theorems.specs.Exactly.Quick.{GetSays, SeekSays, NextSays, PageSays, SheetSays}
+use Rattle.theorems.proofs.Exactly.Quick.{get-exactly as get-table, seek-exactly as seek-table, next-exactly as next-table, page-exactly as page-table, sheet-exactly as sheet-table}
 
 -- DEMAND 1: ONE ANSWER
 
@@ -198,20 +201,25 @@ unfolding value_left
 get-untouched {t} {x} {key} {was} p l =
     p.leaving ∙ ap (λ (a : GetAnswer). value_left a (get_answer t x key).value was) (get-above (get_answer t x key).answer p.answers l).1
 
-sought-untouched : {a : CursorAnswer} {run place n f r p : ℕ} {c k : List ℕ} → Sought a run place c n f r p k → 0 < n → (r ≡ run) × (p ≡ place) × (k ≡ c)
+pub seek-untouched : {t x key c k : List ℕ} {run place n f r p : ℕ} → Seek t x key c run place n f r p k → 0 < n → (r ≡ run) × (p ≡ place) × (k ≡ c)
 unfolding run_left place_left cursor_left
-sought-untouched {a} {run} {place} {c = c} s l =
-    let e = (seek-above a.answer s.answers l).1 in (
-      s.run-left ∙ ap (λ (w : SeekAnswer). run_left w run) e,
-      s.place-left ∙ ap (λ (w : SeekAnswer). place_left w place) e,
-      s.cursor-left ∙ ap (λ (w : SeekAnswer). cursor_left w a.cursor c) e,
+seek-untouched {t} {x} {key} {c} {run = run} {place} p l =
+    let a = seek_answer t x key in
+    let e = (seek-above a.answer p.sought.answers l).1 in (
+      p.sought.run-left ∙ ap (λ (w : SeekAnswer). run_left w run) e,
+      p.sought.place-left ∙ ap (λ (w : SeekAnswer). place_left w place) e,
+      p.sought.cursor-left ∙ ap (λ (w : SeekAnswer). cursor_left w a.cursor c) e,
     )
 
-pub seek-untouched : {t x key c k : List ℕ} {run place n f r p : ℕ} → Seek t x key c run place n f r p k → 0 < n → (r ≡ run) × (p ≡ place) × (k ≡ c)
-seek-untouched p l = sought-untouched p.sought l
-
 pub next-untouched : {t x c k : List ℕ} {run place n f r p : ℕ} → Next t x c run place n f r p k → 0 < n → (r ≡ run) × (p ≡ place) × (k ≡ c)
-next-untouched p l = sought-untouched p.sought l
+unfolding run_left place_left cursor_left
+next-untouched {t} {x} {c} {run = run} {place} p l =
+    let a = next_answer t x (cursor_in c) in
+    let e = (seek-above a.answer p.sought.answers l).1 in (
+      p.sought.run-left ∙ ap (λ (w : SeekAnswer). run_left w run) e,
+      p.sought.place-left ∙ ap (λ (w : SeekAnswer). place_left w place) e,
+      p.sought.cursor-left ∙ ap (λ (w : SeekAnswer). cursor_left w a.cursor c) e,
+    )
 
 -- a refused page hands back the cursor that it was given; refused by 1, 4 or 11 it has written nothing, and by 10 it keeps what it wrote (page-behind)
 pub page-untouched : {t x c out k left : List ℕ} {n f i : ℕ} → Page t x c out n f i k left → 0 < n → k ≡ c
