@@ -1,28 +1,16 @@
 -- What `finish` needs of the definitions: its two ways out.
 --     finished-none, finished-some     an input that ends with a line feed, and one that ends within a line
 --     finishes-none, finishes-line     nothing is carried, or the characters of a last line
-use Rattle.std.specs.Prelude.{◌≡◌, refl, ◌⊎◌, ℕ, zero, suc, ◌+◌, ◌-◌, ◌%◌, ◌^◌, ◌≤◌, ◌<◌, get_or, take, drop}
-use Rattle.std.proofs.Math.Path.{sym, ap, ap₂}
-use Rattle.std.proofs.Common.{◌∙◌, subst, ⊎_elim, eq-or-lt_of_le, length-append, take_all, take-take, take-add, drop-drop, drop-cons, get_or-take}
+use Rattle.std.specs.Prelude.{◌≡◌, refl, ℕ, take}
+use Rattle.std.proofs.Math.Path.{sym, ap}
+use Rattle.std.proofs.Common.{◌∙◌, take-take}
 use native.Mathlib.Omega.{arith}
-use mathlib.Core.List.{List, [], ◌∷◌, ◌++◌}
-use Rattle.std.proofs.Math.ListN.{length, length-drop}
-use Rattle.std.proofs.Math.Seq.{length-take-le, get_or-drop, take-append-add}
-use Rattle.std.proofs.lemmas.List.{take-append-le}
-use Rattle.number.specs.Big.{put}
-use Rattle.number.proofs.Big.Writes.{length-put, take_put}
-use Rattle.theory.specs.Tests.{never}
-use Rattle.drawer_spec.specs.Line.Front.{tray_size, line_size, Front}
-use Rattle.drawer_spec.specs.declared.Told.{Told}
-use Rattle.drawer_spec.specs.Line.{room_size, Turn, turn, answer_line}
-use Rattle.drawer_spec.specs.Line.Code.{front-none, front_length}
-use Rattle.drawer_spec.specs.Turns.{Answered}
-use Rattle.drawer_spec.specs.Theorems.{turn-front}
+use mathlib.Core.List.{List, [], ◌∷◌}
+use Rattle.std.proofs.Math.ListN.{length}
+use Rattle.drawer_spec.specs.Line.Code.{front_length}
 use Rattle.drawer_spec.specs.declared.Carried.{Carried}
-use Rattle.drawer_spec.specs.declared.Taken.{Taken}
-use Rattle.drawer_spec.specs.Feed.{Progress, begun, ended, more, feed, finished}
-use Rattle.drawer_spec.specs.Feed.Laws.{Plain, feed-append, feed-more, feed-line}
-use Rattle.drawer_spec.specs.Feed.Code.{gather_size, none-gathered, Stands, Keeps, Answers, Finishes}
+use Rattle.drawer_spec.specs.Feed.{Progress, ended, finished}
+use Rattle.drawer_spec.specs.Feed.Code.{gather_size, none-gathered, Answers, Finishes}
 
 finished-none : (p : Progress) → p.line ≡ [] → finished p ≡ p
 unfolding finished

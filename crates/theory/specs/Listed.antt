@@ -1,4 +1,4 @@
--- A function at numbers in a row, as a list: how the runs and records that bytes mean are listed. Its laws: `Listed/Laws.antt`.
+-- A function at numbers in a row, as a list: how the runs and records that bytes mean are listed. Its laws: `proofs/Listed/Laws.antt`.
 use Rattle.std.specs.Prelude.{ℕ, zero, suc, List, [], ◌∷◌}
 
 -- f at the n numbers from i on

@@ -1,5 +1,5 @@
 -- Lists that rise strictly by a number, and the list functions that everything else is made of.
--- The laws of rising lists are in `Rising/Laws.antt`, those of the functions in `Kept.antt` and `Inserted.antt`; the one that the rest
+-- The laws of rising lists are in `proofs/Rising/Laws.antt`, those of the functions in `Kept.antt` and `Inserted.antt`; the one that the rest
 -- stands on is `same-members`.
 use Rattle.std.specs.Prelude.{ℕ, ◌<◌, Bool, false, cond, ◌||◌, ltb}
 use mathlib.Core.List.{List, [], ◌∷◌, Memᴰ}

@@ -18,8 +18,6 @@ use Rattle.number.specs.Big.{be, bytes_of, put}
 use Rattle.number.proofs.Big.Laws.{be-add, bytes_of-add, length-bytes_of}
 use Rattle.number.proofs.Big.Writes.{put-put}
 use Rattle.theory.specs.Tests.{cases, clash, or_left, or_right}
-use Rattle.theory.specs.Records.{Record}
-use Rattle.tray.specs.declared.Head.{Head}
 use Rattle.tray.specs.declared.RunAnswer.TheVariants.{WrongKind, WrongKey}
 use Rattle.tray.specs.Run.{record_from, record_at, kind_wrong, key_wrong, place, judge_from}
 use Rattle.tray.specs.Run.Laws.{judge-kind, judge-key, judge-next}

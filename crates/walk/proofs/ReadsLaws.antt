@@ -1,4 +1,4 @@
--- What follows from the definitions of `specs/Reads.antt`.
+-- What follows from the definitions of `specs/Reads.antt`: pages and sheets.
 pub mod Page
 pub mod Pages
 pub mod Sheet

@@ -13,7 +13,7 @@ use Rattle.theory.specs.Tests.{never}
 use Rattle.drawer_spec.specs.Line.Front.{tray_size, line_size, Front}
 use Rattle.drawer_spec.specs.declared.Told.{Told}
 use Rattle.drawer_spec.specs.Line.{room_size, Turn, turn, answer_line}
-use Rattle.drawer_spec.specs.Line.Code.{front-none, front_length}
+use Rattle.drawer_spec.specs.Line.Code.{front-none}
 use Rattle.drawer_spec.specs.Turns.{Answered}
 use Rattle.drawer_spec.specs.Theorems.{turn-front}
 use Rattle.drawer_spec.specs.declared.Carried.{Carried}

@@ -6,42 +6,18 @@
 --     NextSays              next: 1, 4, 11, 10
 --     PageSays              page: 1, 4, 11, 10
 --     SheetSays             sheet: 1, 4, 8, 9, 10, 7
-use Rattle.std.specs.Prelude.{◌≡◌, refl, ◌↔◌, ◌⊎◌, true, false, List, get_or, eqb, leb}
-use Rattle.std.proofs.Math.Path.{sym, ap}
-use Rattle.std.proofs.Common.{◌∙◌, arith}
-use Rattle.std.proofs.Math.Logic.{inl, inr}
+use Rattle.std.specs.Prelude.{◌≡◌, ◌⊎◌, true, false, List, get_or}
 use Prim.Native.Nat.{ℕ, ◌+◌, ◌-◌, ◌*◌, ◌≤◌, ◌<◌}
 use Rattle.std.proofs.Math.ListN.{length}
-use borrow.Author.Tests.{eqb-true, eqb-false, eq-eqb, ne_eqb, leb-true, leb-false, le-leb, lt-leb}
 use Rattle.number.specs.Big.{be}
-use Rattle.refusal.specs.declared.Refusal.{Refusal}
-use Rattle.refusal.specs.declared.Refusal.TheVariants.{TrayFrame, IndexFrame, Bounds, PrefixEnd, Cursor as NotBelonging}
-use Rattle.refusal.specs.declared.Verdict.{Verdict}
-use Rattle.refusal.specs.Table.{told}
 use Rattle.theory.specs.Records.{Record}
-use Rattle.theory.specs.Tests.{split, cases, clash, and-true, and_left, and_right}
-use Rattle.tray.specs.Frame.{run_count, run_bytes, framed, Framed}
-use Rattle.tray.specs.Frame.Laws.{framed-fits, fits-framed}
+use Rattle.tray.specs.Frame.{run_count, run_bytes, Framed}
 use Rattle.tray.specs.Run.{record_at}
-use Rattle.index.specs.Layout.{index_framed, IndexFramed}
-use Rattle.index.specs.Layout.Laws.{index-fits, fits-index}
+use Rattle.index.specs.Layout.{IndexFramed}
 use Rattle.walk.specs.declared.cursor.Cursor.{Cursor}
-use Rattle.answers.specs.declared.ValueAnswer.{ValueAnswer}
-use Rattle.answers.specs.declared.CursorAnswer.{CursorAnswer}
-use Rattle.walk.specs.Walk.{Spot, Walked, stayed, ended, lost}
-use Rattle.walk.specs.Reads.{Found, seek, Got, got_from, get, next, Written, page, sheet, belongs}
+use Rattle.walk.specs.Walk.{Spot, stayed, ended, lost}
+use Rattle.walk.specs.Reads.{Found, seek, next, Written, page, sheet, belongs}
 use Rattle.walk.specs.Code.{spot_of}
-use Rattle.answers.specs.Quick.{in_frames}
-use Rattle.answers.specs.Seek.{refused_seek, seek_told as seek_by, seek_framed, seek_answer}
-use Rattle.answers.specs.Get.{refused_get, got_told, get_framed, get_answer}
-use Rattle.answers.specs.Next.{refused_next, next_told, next_framed, next_answer}
-use Rattle.answers.specs.declared.PagedAnswer.{PagedAnswer}
-use Rattle.answers.specs.Page.{refused_page, page_told as page_by, page_framed, page_answer}
-use Rattle.answers.specs.declared.SheetAnswer.{SheetAnswer}
-use Rattle.answers.specs.declared.SheetAnswer.TheVariants.{Refused as SheetRefused}
-use Rattle.answers.specs.Sheet.{prefix_long, prefix_last, listed_in, sheet_told as sheet_by, sheet_framed, sheet_answer}
-use Rattle.theorems.specs.Told.{get_told, seek_told, page_told, sheet_told}
-use Rattle.theorems.specs.Exactly.{exactly-by}
 
 module _ (t x : List ℕ) where
   -- both frames fit

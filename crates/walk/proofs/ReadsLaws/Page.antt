@@ -5,7 +5,7 @@
 --     write-more, written-length     one record more, and that the output stays as long
 --     room, paged          how many records fit, and what a page of these stops comes to
 --     page-is              a page is that
--- Not here: pages put together, which are in `Reads/Pages.antt`.
+-- Not here: pages put together, which are in `Pages.antt`.
 use Rattle.std.specs.Prelude.{◌≡◌, ℕ, zero, suc, ◌+◌, ◌*◌, ◌/◌, ◌≤◌, ◌<◌, cond, length, take, drop, leb}
 use Rattle.std.proofs.Math.Path.{refl}
 use Rattle.std.proofs.Common.{sym, ap, ap₂, ◌∙◌, subst, add-zero, arith, length-append, length-drop, take_at, drop-drop, le-leb}

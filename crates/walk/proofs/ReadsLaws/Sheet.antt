@@ -3,7 +3,7 @@
 --     within       a record within bounds
 --     Lists        a walk that came through, and what it has listed
 --     sheet-is     what sheet lists
--- Not here: that the bounds are those of a prefix, which is in `Reads/Prefix.antt`.
+-- Not here: that the bounds are those of a prefix, which is in `Prefix.antt`.
 use Rattle.std.specs.Prelude.{◌≡◌, ℕ, ◌≤◌, Bool, false, cond, ◌&&◌, leb, ltb}
 use Rattle.std.proofs.Math.Path.{refl, sym, ap, subst}
 use Rattle.std.proofs.Common.{◌∙◌, arith}
