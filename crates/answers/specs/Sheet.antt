@@ -7,7 +7,7 @@ use Rattle.refusal.specs.declared.Refusal.TheVariants.{Lost, Room, Bounds, Prefi
 use Rattle.theory.specs.Records.{Record}
 use Rattle.walk.specs.Walk.{Walked, stayed, ended, lost}
 use Rattle.walk.specs.Reads.{sheet}
-use Rattle.walk.proofs.ReadsLaws.Page.{listing}
+use Rattle.walk.specs.Reads.Page.{listing}
 use Rattle.answers.specs.Quick.{in_frames}
 use Rattle.answers.specs.declared.SheetAnswer.{SheetAnswer}
 use Rattle.answers.specs.declared.SheetAnswer.TheVariants.{Listed, Refused}

@@ -1,5 +1,10 @@
 -- The index that the builder writes (docs/RULES.md, "The index": it puts a key's versions into the current segment if all fit and else opens a
 -- new one), and its answer for every input: order 1, 6, 3/2, 7.
+pub mod Answers
+pub mod Theorems
+pub mod Read
+pub mod Bytes
+pub mod Laws
 use Rattle.std.specs.Prelude.{ℕ, ◌-◌, Bool, cond, ◌&&◌, List, [], ◌∷◌, ◌++◌, map, length, replicate, leb}
 use Rattle.number.specs.Big.{bytes_of, put}
 use Rattle.refusal.specs.declared.Refusal.TheVariants.{TrayFrame, SegmentSize, Room}

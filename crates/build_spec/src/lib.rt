@@ -1,4 +1,5 @@
-// What building an index answers (docs/RULES.md, "The index"). The definitions and what follows from them are in specs/; the call is in `build`.
+// What building an index answers (docs/RULES.md, "The index"). The definitions are in specs/, what follows from them in
+// proofs/; the call is in `build`.
 #![tactic(auto)]
 
 use refusal::Refusal;

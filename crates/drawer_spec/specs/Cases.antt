@@ -20,7 +20,7 @@ use Rattle.build_spec.specs.Build.{cuts, anchor_of, offsets_bytes, segment_bytes
 use Rattle.walk.specs.Start.{probe, start}
 use Rattle.walk.specs.Walk.{loaded, named, walk_selectors, walk_segments, walk_from}
 use Rattle.walk.specs.Reads.{record_by, unmarked, found_by, seek_visit, seek, got_from, get, low_key, high_key, sheet_visit, sheet_from, sheet, listed_bytes}
-use Rattle.walk.proofs.ReadsLaws.Page.{listing}
+use Rattle.walk.specs.Reads.Page.{listing}
 use Rattle.answers.specs.Quick.{in_frames}
 use Rattle.answers.specs.Get.{got_told, get_framed, get_answer}
 use Rattle.answers.specs.Sheet.{prefix_long, prefix_last, listed_in, sheet_told, records_of, sheet_framed, sheet_answer}

@@ -17,7 +17,7 @@ use Rattle.answers.specs.declared.GetAnswer.{GetAnswer}
 use Rattle.answers.specs.declared.GetAnswer.TheVariants.{Found, Absent, Refused as GetRefused}
 use Rattle.answers.specs.Get.{get_answer}
 use Rattle.walk.specs.Reads.{sheet}
-use Rattle.walk.proofs.ReadsLaws.Page.{listing}
+use Rattle.walk.specs.Reads.Page.{listing}
 use Rattle.answers.specs.declared.SheetAnswer.{SheetAnswer}
 use Rattle.answers.specs.declared.SheetAnswer.TheVariants.{Listed, Refused as SheetRefused}
 use Rattle.answers.specs.Sheet.{records_of, sheet_answer}

@@ -31,7 +31,8 @@ use Rattle.answers.specs.declared.GetAnswer.TheVariants.{Found, Absent, Refused 
 use Rattle.answers.specs.Get.{get_answer, get_framed, got_told, refused_get}
 use Rattle.answers.specs.Seek.Hands.{in-frames}
 use Rattle.walk.specs.Reads.{Got, value, absent, get-lost, get, listed_bytes, sheet}
-use Rattle.walk.proofs.ReadsLaws.Page.{listing, length-listing}
+use Rattle.walk.specs.Reads.Page.{listing}
+use Rattle.walk.proofs.ReadsLaws.Page.{length-listing}
 use Rattle.answers.specs.declared.SheetAnswer.{SheetAnswer}
 use Rattle.answers.specs.declared.SheetAnswer.TheVariants.{Listed, Refused as SheetRefused}
 use Rattle.answers.specs.Sheet.{records_of, sheet_answer}

@@ -1,5 +1,5 @@
 // What the program `drawer` does with a line and with an input (docs/DRAWER.md, "The program `drawer`"). There is no code here: the definitions and
-// laws are in specs/.
+// laws are in specs/, the laws of an input's end in proofs/.
 #![tactic(auto)]
 
 // How much is kept of the buffer that a line fills, and the length of its answer line.

@@ -31,7 +31,8 @@ use Rattle.tray.specs.Meaning.Back.{fits-runs}
 use Rattle.fold_spec.specs.declared.FoldAnswer.{FoldAnswer}
 use Rattle.fold_spec.specs.declared.FoldAnswer.TheVariants.{Written, Refused}
 use Rattle.fold_spec.specs.Fold.{key_of, folded_run, folded_runs, fold_bytes, fold_size, bounds_hold, after_check, fold_answer, fold_leaves}
-use Rattle.fold_spec.proofs.Fold.Laws.{key_rule, length-fold_bytes, fold-copies}
+use Rattle.fold_spec.specs.Fold.Laws.{key_rule}
+use Rattle.fold_spec.proofs.Fold.Laws.{length-fold_bytes, fold-copies}
 use Rattle.fold_merge.specs.Folding.{Folding, Noted, merged_run}
 use Rattle.fold_write.specs.Write.{sound_answer}
 

@@ -1,5 +1,10 @@
 -- Fold a..b writes a tray in which those runs are one (docs/RULES.md, "Folding": for each key in them the record of the lowest-numbered run, gone
 -- ones included; other runs are copied), and its answer for every input: order 1, 8, 3/2, 12, 7.
+pub mod Nothing
+pub mod Chains
+pub mod Answers
+pub mod Leaves
+pub mod Laws
 use Rattle.std.specs.Prelude.{ℕ, suc, ◌+◌, ◌-◌, ◌*◌, ◌≡◌, Bool, cond, ◌&&◌, List, length, take, drop, leb, ltb}
 use Rattle.number.specs.Big.{put}
 use Rattle.refusal.specs.declared.Refusal.TheVariants.{TrayFrame, Room, Bounds, RunLength}

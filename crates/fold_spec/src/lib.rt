@@ -1,4 +1,5 @@
-// What folding neighbouring runs answers (docs/RULES.md, "Folding"). The definitions and what follows from them are in specs/; the call is in `fold`.
+// What folding neighbouring runs answers (docs/RULES.md, "Folding"). The definitions are in specs/, what follows from them
+// in proofs/; the call is in `fold`.
 #![tactic(auto)]
 
 use refusal::Refusal;

@@ -13,7 +13,7 @@ use Rattle.tray.specs.Check.{check_tray_answer, Sound}
 use Rattle.tray.proofs.Check.Theorems.{answers-records}
 use Rattle.tray.specs.Meaning.{runs_of}
 use Rattle.fold_spec.specs.Fold.{folded_run, fold_answer, fold_leaves, Calls, no_call, call}
-use Rattle.fold_spec.proofs.Fold.Laws.{InBounds}
+use Rattle.fold_spec.specs.Fold.Laws.{InBounds}
 use Rattle.theorems.specs.Unchanged.{Folded}
 use Rattle.theorems.specs.Told.Laws.{tray-zero, index-zero, fold-zero}
 use Rattle.kanyorith.specs.Promises.{CheckTray, Fold}

@@ -20,7 +20,8 @@ use Rattle.index.specs.Layout.{index_framed}
 use Rattle.walk.specs.declared.cursor.Cursor.{Cursor}
 use Rattle.walk.specs.Walk.{Spot, Walked, stayed, ended, lost}
 use Rattle.walk.specs.Reads.{Written, belongs, page, sheet}
-use Rattle.walk.proofs.ReadsLaws.Page.{listing, length-listing}
+use Rattle.walk.specs.Reads.Page.{listing}
+use Rattle.walk.proofs.ReadsLaws.Page.{length-listing}
 use Rattle.walk.specs.Code.{spot_of}
 use Rattle.answers.specs.Quick.{in_frames}
 use Rattle.answers.specs.declared.PagedAnswer.{PagedAnswer}

@@ -43,7 +43,8 @@ use Rattle.walk.specs.Reads.Next.{next-is, next-spots, next-gap, next-end}
 use Rattle.walk.specs.Reads.From.{from_on}
 use Rattle.walk.specs.Reads.Belongs.{stop-belongs, belongs-standing}
 use Rattle.walk.specs.Reads.Standing.{Standing, at-stop, at_gap, at-end as standing-end, standing_on}
-use Rattle.walk.proofs.ReadsLaws.Page.{listing, page-is}
+use Rattle.walk.specs.Reads.Page.{listing}
+use Rattle.walk.proofs.ReadsLaws.Page.{page-is}
 use Rattle.walk.proofs.ReadsLaws.Pages.{paged-lost, pages-are as paged-are}
 use Rattle.walk.specs.Walk.{Spot, Walked, ended, lost}
 use Rattle.walk.specs.Reads.Seek.{lookup, points, is_from, from, seek_is, shown-shows}

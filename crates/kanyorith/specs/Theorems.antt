@@ -57,7 +57,7 @@ use Rattle.answers.specs.declared.ValueAnswer.{ValueAnswer}
 use Rattle.walk.specs.Reads.Seek.{points, points-rise as rising-points}
 use Rattle.walk.specs.Reads.{belongs}
 use Rattle.walk.specs.Code.{spot_of}
-use Rattle.walk.proofs.ReadsLaws.Page.{listing}
+use Rattle.walk.specs.Reads.Page.{listing}
 use Rattle.walk.proofs.ReadsLaws.Prefix.{sheet-begins}
 use Rattle.theorems.specs.Read.{onward, prefixed}
 use Rattle.theorems.specs.Unchanged.{get-unchanged, sheet-unchanged, sheet-leaves-unchanged}
@@ -71,10 +71,12 @@ use Rattle.answers.specs.declared.PageAnswer.{PageAnswer}
 use Rattle.answers.specs.Page.{page_answer, page_leaves}
 use Rattle.answers.specs.Sheet.{sheet_answer, sheet_leaves}
 use Rattle.fold_spec.specs.Fold.{fold_size, fold_answer, fold_leaves}
-use Rattle.fold_spec.proofs.Fold.Chains.{whole_size, whole_bytes, reaches-one as one-whole, calls-sound, calls-visible, calls-meet, length-never-stops, length-stops}
+use Rattle.fold_spec.specs.Fold.Chains.{whole_size, whole_bytes}
+use Rattle.fold_spec.proofs.Fold.Chains.{reaches-one as one-whole, calls-sound, calls-visible, calls-meet, length-never-stops, length-stops}
 use Rattle.fold_spec.proofs.Fold.Laws.{length-fold_bytes}
 use Rattle.fold_spec.proofs.Fold.Answers.{fold-written}
-use Rattle.fold_spec.proofs.Fold.Nothing.{without_run, AddsNothing, empty-run, older-copy, same_bytes}
+use Rattle.fold_spec.specs.Fold.Nothing.{without_run, AddsNothing}
+use Rattle.fold_spec.proofs.Fold.Nothing.{empty-run, older-copy, same_bytes}
 use Rattle.fold_spec.proofs.Fold.Leaves.{leaves-written as fold-leaves-written}
 use Rattle.kanyorith.specs.Promises.{CheckTray, CheckIndex, Build, value_left, Get, run_left, place_left, cursor_left, Sought, Seek, Next, page_cursor_left, Page, Sheet, Fold}
 use Rattle.theorems.specs.Told.Laws.{index-zero, build-zero, build-above, get-above, seek-above, page-above, sheet-above, fold-zero, fold-above}

@@ -27,9 +27,10 @@ use Rattle.walk.specs.declared.cursor.Sought.{Sought}
 use Rattle.walk.specs.Start.{start}
 use Rattle.walk.specs.Walk.{Spot, stay, Walked, stayed, walk_from, walk_segments}
 use Rattle.walk.specs.Reads.{Found, unmarked, record_by, low_key, high_key, seek_visit, seek, page_visit, sheet_visit, sheet_from, sheet}
-use Rattle.walk.proofs.ReadsLaws.Page.{listing, written, length-listing}
-use Rattle.walk.proofs.ReadsLaws.Sheet.{Lists}
-use Rattle.walk.proofs.ReadsLaws.Sheet.Lists.{to-bound, to_end}
+use Rattle.walk.specs.Reads.Page.{listing, written}
+use Rattle.walk.proofs.ReadsLaws.Page.{length-listing}
+use Rattle.walk.specs.Reads.Sheet.{Lists}
+use Rattle.walk.specs.Reads.Sheet.Lists.{to-bound, to_end}
 use Rattle.walk.specs.Code.{Walking, spot_of, sought_as, sought_of}
 use Rattle.answers.specs.Get.Code.{came}
 use Rattle.walk.specs.Code.Stayed.{Stands, walk-stays}

@@ -18,9 +18,10 @@ use Rattle.index.specs.Layout.{size_of, segment_count}
 use Rattle.index.specs.Scan.{run_in, raise}
 use Rattle.walk.specs.Walk.{Spot, stay, go, Walked, stayed, ended, lost, loaded, named, selector_at, walk_selectors, walk_segments, walk_from}
 use Rattle.walk.specs.Reads.{Written, unmarked, record_by, sheet_visit, page_visit}
-use Rattle.walk.proofs.ReadsLaws.Page.{listing, written, write-more, written-length, length-listing}
-use Rattle.walk.proofs.ReadsLaws.Sheet.{Lists}
-use Rattle.walk.proofs.ReadsLaws.Sheet.Lists.{to-bound, to_end}
+use Rattle.walk.specs.Reads.Page.{listing, written}
+use Rattle.walk.proofs.ReadsLaws.Page.{write-more, written-length, length-listing}
+use Rattle.walk.specs.Reads.Sheet.{Lists}
+use Rattle.walk.specs.Reads.Sheet.Lists.{to-bound, to_end}
 use Rattle.walk.specs.Code.{spot_of}
 use Rattle.list.specs.declared.points.Halt.{Halt}
 use Rattle.list.specs.declared.points.Halt.TheVariants.{More, End, Lost}

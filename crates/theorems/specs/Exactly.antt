@@ -22,7 +22,8 @@ use Rattle.tray.specs.declared.TrayAnswer.TheVariants.{Records, Refused as TrayR
 use Rattle.tray.specs.Frame.{run_count, records_before, Framed}
 use Rattle.tray.specs.Check.{check_tray_answer, Sound, Says, refused-1, refused-2, refused-3, records}
 use Rattle.tray.proofs.Check.Laws.{says}
-use Rattle.tray.proofs.Check.Theorems.{answers-records, refuses-1, refuses-2, refuses-3, WrongKeyAt, WrongKindAt}
+use Rattle.tray.specs.Check.Theorems.{WrongKeyAt, WrongKindAt}
+use Rattle.tray.proofs.Check.Theorems.{answers-records, refuses-1, refuses-2, refuses-3}
 use Rattle.tray.specs.Meaning.{runs_of}
 use Rattle.index.specs.declared.IndexAnswer.{IndexAnswer}
 use Rattle.index.specs.declared.IndexAnswer.TheVariants.{Segments, Refused as IndexRefused}
@@ -33,13 +34,15 @@ use Rattle.index.specs.Check.Laws.{check-says}
 use Rattle.build_spec.specs.declared.BuildAnswer.{BuildAnswer}
 use Rattle.build_spec.specs.declared.BuildAnswer.TheVariants.{Written as BuildWritten, Refused as BuildRefused}
 use Rattle.build_spec.specs.Build.{build_answer}
-use Rattle.build_spec.proofs.Build.Theorems.{SizeFits}
-use Rattle.build_spec.proofs.Build.Answers.{Builds, When, build-says}
+use Rattle.build_spec.specs.Build.Theorems.{SizeFits}
+use Rattle.build_spec.specs.Build.Answers.{Builds, When}
+use Rattle.build_spec.proofs.Build.Answers.{build-says}
 use Rattle.fold_spec.specs.declared.FoldAnswer.{FoldAnswer}
 use Rattle.fold_spec.specs.declared.FoldAnswer.TheVariants.{Written as FoldWritten, Refused as FoldRefused}
 use Rattle.fold_spec.specs.Fold.{folded_run, fold_size, fold_answer}
-use Rattle.fold_spec.proofs.Fold.Laws.{InBounds}
-use Rattle.fold_spec.proofs.Fold.Answers.{When as FoldWhen, fold-says}
+use Rattle.fold_spec.specs.Fold.Laws.{InBounds}
+use Rattle.fold_spec.specs.Fold.Answers.{When as FoldWhen}
+use Rattle.fold_spec.proofs.Fold.Answers.{fold-says}
 use Rattle.theorems.specs.Told.{tray_told, index_told, build_told, fold_told}
 use Rattle.theorems.specs.Told.Laws.{refused-above}
 

@@ -25,8 +25,9 @@ use Rattle.walk.specs.Reads.Shown.{found_at, point_of, is_shown, shown}
 use Rattle.walk.specs.Reads.Seek.{from, seek_is}
 use Rattle.walk.specs.Reads.From.{from_on}
 use Rattle.walk.specs.Reads.Standing.{Standing, at-stop, at-end}
-use Rattle.walk.proofs.ReadsLaws.Page.{listing}
-use Rattle.walk.proofs.ReadsLaws.Pages.{bytes_in, Pages, pages-end, pages-on, pages-are}
+use Rattle.walk.specs.Reads.Page.{listing}
+use Rattle.walk.specs.Reads.Pages.{bytes_in, Pages, pages-end, pages-on}
+use Rattle.walk.proofs.ReadsLaws.Pages.{pages-are}
 use Rattle.walk.specs.Code.{spot_of}
 use Rattle.answers.specs.Quick.{cursor_of, in_frames}
 use Rattle.answers.specs.Seek.{refused_seek, seek_told, seek_framed, seek_answer}

@@ -30,7 +30,8 @@ use Rattle.walk.specs.Walk.Tours.{first_of}
 use Rattle.walk.specs.Reads.{low_key, high_key, sheet}
 use Rattle.walk.specs.Reads.Kept.{keep-map}
 use Rattle.walk.specs.Reads.Shown.{found_at, point_of, shown, Shows, shown-merged}
-use Rattle.walk.proofs.ReadsLaws.Sheet.{Lists, to-bound, to_end, within, sheet-is}
+use Rattle.walk.specs.Reads.Sheet.{Lists, to-bound, to_end, within}
+use Rattle.walk.proofs.ReadsLaws.Sheet.{sheet-is}
 use Rattle.walk.specs.Reads.Seek.{is_from, from, lookup, points, seek_is, get-is, shown-shows}
 use Rattle.answers.specs.declared.SheetAnswer.{SheetAnswer}
 use Rattle.answers.specs.declared.SheetAnswer.TheVariants.{Refused as SheetRefused}

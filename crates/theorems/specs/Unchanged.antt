@@ -20,8 +20,8 @@ use Rattle.walk.specs.Walk.Spots.{Reading, check-reading}
 use Rattle.walk.specs.Reads.Shown.{point_of}
 use Rattle.walk.specs.Reads.Seek.{from, lookup, points}
 use Rattle.walk.specs.Reads.{low_key, high_key}
-use Rattle.walk.proofs.ReadsLaws.Page.{listing}
-use Rattle.walk.proofs.ReadsLaws.Sheet.{within}
+use Rattle.walk.specs.Reads.Page.{listing}
+use Rattle.walk.specs.Reads.Sheet.{within}
 use Rattle.answers.specs.Seek.{seek_answer}
 use Rattle.answers.specs.Get.{got_told, get_answer}
 use Rattle.answers.specs.declared.SheetAnswer.{SheetAnswer}

@@ -19,11 +19,13 @@ use Rattle.tray.specs.Frame.Laws.{framed-fits}
 use Rattle.build_spec.specs.declared.BuildAnswer.{BuildAnswer}
 use Rattle.build_spec.specs.declared.BuildAnswer.TheVariants.{Written as BuildWritten, Refused as BuildRefused}
 use Rattle.build_spec.specs.Build.{size_fits, build_answer, build_leaves}
-use Rattle.build_spec.proofs.Build.Answers.{When, build-says}
+use Rattle.build_spec.specs.Build.Answers.{When}
+use Rattle.build_spec.proofs.Build.Answers.{build-says}
 use Rattle.fold_spec.specs.declared.FoldAnswer.{FoldAnswer}
 use Rattle.fold_spec.specs.declared.FoldAnswer.TheVariants.{Written as FoldWritten, Refused as FoldRefused}
 use Rattle.fold_spec.specs.Fold.{bounds_hold, fold_answer, fold_leaves}
-use Rattle.fold_spec.proofs.Fold.Answers.{When as FoldWhen, fold-says}
+use Rattle.fold_spec.specs.Fold.Answers.{When as FoldWhen}
+use Rattle.fold_spec.proofs.Fold.Answers.{fold-says}
 use Rattle.theorems.specs.Told.{build_told, fold_told}
 
 -- a number as a byte

@@ -1,4 +1,6 @@
 -- Check tray's answer for every input (docs/RULES.md, "Refusals by number": 1, then 3/2 in tray order), and what a sound tray is.
+pub mod Theorems
+pub mod Laws
 mod Cases
 pub mod Code
 use Rattle.std.specs.Prelude.{ℕ, zero, suc, ◌+◌, ◌<◌, ◌≡◌, true, false, cond, List}

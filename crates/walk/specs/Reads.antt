@@ -1,6 +1,9 @@
 -- Cursors, seek, get, next, page and sheet (docs/RULES.md, "Reading through an index"), each a walk with its visitor, for a tray and an index whose
 -- frames fit. In a walk the marks alone decide what is visible, not the records. Next and page's counts and cursors read counts, index bytes and
 -- the cursor only.
+pub mod Sheet
+pub mod Pages
+pub mod Page
 pub mod Kept
 pub mod Shown
 pub mod Seek

@@ -33,7 +33,8 @@ use Rattle.merge_lead.specs.Heads.{highest}
 use Rattle.merge_lead.specs.Heads.Leads.{NextRun, NoRun, LeastKey}
 use Rattle.merge_lead.specs.Heads.Leads.Next.{next_key-has, next_key-low}
 use Rattle.build_spec.specs.Build.{item_key}
-use Rattle.build_spec.proofs.Build.Laws.{Ready, below_64}
+use Rattle.build_spec.specs.Build.Laws.{Ready}
+use Rattle.build_spec.proofs.Build.Laws.{below_64}
 use Rattle.build_spec.proofs.Build.Bytes.{run_at-has}
 
 -- the records b have been read, w are left, and the places say so

@@ -10,7 +10,8 @@ use Rattle.index.specs.Rules.Cuts.{Cut, last_of}
 use Rattle.index.specs.Scan.{marked}
 use Rattle.index.specs.Scan.Marks.{marks, first-mark, true-marks}
 use Rattle.build_spec.specs.Build.{item_key}
-use Rattle.build_spec.proofs.Build.Laws.{Ready, below_64}
+use Rattle.build_spec.specs.Build.Laws.{Ready}
+use Rattle.build_spec.proofs.Build.Laws.{below_64}
 
 -- the selectors of records after one with key k
 unfoldable pub marks_on : ℕ → List Item → List ℕ

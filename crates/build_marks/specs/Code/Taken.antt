@@ -19,7 +19,7 @@ use Rattle.index.specs.Rules.Laws.{marks-run}
 use Rattle.index.specs.Scan.{marked, next_in, raise}
 use Rattle.index.specs.Scan.Places.{places_of, raise-places_of}
 use Rattle.build_spec.specs.Build.{item_key}
-use Rattle.build_spec.proofs.Build.Laws.{Ready}
+use Rattle.build_spec.specs.Build.Laws.{Ready}
 use Rattle.build_marks.specs.Code.{spelling, old_mark, Steps, none, more, Selecting}
 use Rattle.build_marks.specs.Code.Merge.{Reached, next-first}
 use Rattle.build_marks.specs.Code.Spelled.{marks_on, last_key, marks_on-snoc, last_key-snoc, length-marks_on}

@@ -23,7 +23,8 @@ use Rattle.index.specs.Rules.Cuts.{Cut, Above, last_of, last_snoc, whole_above, 
 use Rattle.index.specs.Scan.Places.{places_of}
 use Rattle.merge_lead.specs.Heads.Leads.{NextRun, LeastKey}
 use Rattle.build_spec.specs.Build.{item_key}
-use Rattle.build_spec.proofs.Build.Laws.{Ready, below_64, rises-room}
+use Rattle.build_spec.specs.Build.Laws.{Ready}
+use Rattle.build_spec.proofs.Build.Laws.{below_64, rises-room}
 use Rattle.build_marks.specs.Code.{other_key, Stopped, After, over, other, stop, back, Fills, ends, cuts}
 use Rattle.build_marks.specs.Code.Merge.{Reached, Stand, Came, next-first, none_left, least_first}
 use Rattle.build_marks.specs.Code.Spelled.{marks_on, last_key, last_key-last, spells}

@@ -28,7 +28,8 @@ use Rattle.index.specs.Rules.{Item, key_of}
 use Rattle.index.specs.Rules.Cuts.{cut-start}
 use Rattle.index.specs.Scan.Places.{places_of-none}
 use Rattle.build_spec.specs.Build.{item_key, cuts, segment_bytes, segments_bytes, index_size}
-use Rattle.build_spec.proofs.Build.Laws.{Ready, length-view}
+use Rattle.build_spec.specs.Build.Laws.{Ready}
+use Rattle.build_spec.proofs.Build.Laws.{length-view}
 use Rattle.build_spec.proofs.Build.Bytes.{length-segment_bytes}
 use Rattle.build_spec.proofs.Build.Theorems.{sound-ready}
 use Rattle.build_marks.specs.Code.{Segmented, Sounded}

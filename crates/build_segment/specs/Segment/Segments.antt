@@ -21,7 +21,7 @@ use Rattle.theory.proofs.Listed.Laws.{listed_same}
 use Rattle.index.specs.Rules.{Item, selector_of}
 use Rattle.index.specs.Scan.Places.{places_of, get_or-places_of}
 use Rattle.build_spec.specs.Build.{item_key, anchor_of, offsets_bytes, segment_bytes}
-use Rattle.build_spec.proofs.Build.Laws.{Ready}
+use Rattle.build_spec.specs.Build.Laws.{Ready}
 use Rattle.build_spec.proofs.Build.Bytes.{length-offsets_bytes}
 use Rattle.build_marks.specs.Code.{offsets_from, Segmented}
 use Rattle.build_marks.specs.Code.Merge.{Stand, least_first}

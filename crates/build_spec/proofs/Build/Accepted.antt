@@ -25,9 +25,11 @@ use Rattle.theory.proofs.Pack.Groups.{joined-mem}
 use Rattle.theory.specs.Listed.{listed}
 use Rattle.index.specs.Rules.{Item, key_of, placeholder, spelled, PlaceholdersLast, selector_of, KeysWhole, Right, Follows, here, next, Accepted}
 use Rattle.build_spec.specs.Build.{item_key, cuts, anchor_of}
-use Rattle.build_spec.proofs.Build.Laws.{Ready, cuts-joined, cuts-full, cuts-apart}
-use Rattle.build_spec.proofs.Build.Bytes.{filled, Low, selector-real, cuts-low}
-use Rattle.build_spec.proofs.Build.Read.{built_segment, built_segments}
+use Rattle.build_spec.specs.Build.Laws.{Ready}
+use Rattle.build_spec.proofs.Build.Laws.{cuts-joined, cuts-full, cuts-apart}
+use Rattle.build_spec.specs.Build.Bytes.{filled, Low}
+use Rattle.build_spec.proofs.Build.Bytes.{selector-real, cuts-low}
+use Rattle.build_spec.specs.Build.Read.{built_segment, built_segments}
 
 -- the member at a place
 get_or-listed : (n i : ℕ) (f : ℕ → ℕ) (r : ℕ) → r < n → get_or (listed n i f) r 0 ≡ f (i + r)

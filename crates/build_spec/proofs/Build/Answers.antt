@@ -6,7 +6,7 @@
 --     build-refuses-1, -6, -3, -2, -7     each refusal, exactly when
 --     leaves-written, leaves-refused      what is left in the output: the index and what was after it, or what was there
 --     leaves-accepted                     what was written is an accepted index
-use Rattle.std.specs.Prelude.{◌≡◌, ◌↔◌, ℕ, ◌≤◌, ◌<◌, Bool, cond, List, take, drop, leb}
+use Rattle.std.specs.Prelude.{◌≡◌, ◌↔◌, ℕ, ◌≤◌, ◌<◌, Bool, cond, List, take, leb}
 use Rattle.std.proofs.Math.Path.{refl, sym}
 use Rattle.std.proofs.Common.{◌∙◌, subst, zero-le, zero-add}
 use Rattle.std.proofs.Math.Bool.{true, false}
@@ -20,9 +20,10 @@ use Rattle.theory.specs.Tests.{split, cases, clash, and-true, and_left, and_righ
 use Rattle.tray.specs.declared.TrayAnswer.{TrayAnswer}
 use Rattle.tray.specs.Frame.{run_count, records_before, Framed, framed}
 use Rattle.tray.specs.Frame.Laws.{framed-fits, fits-framed}
-use Rattle.tray.specs.Check.{check_tray_answer, Sound, Says, refused-1, refused-2, refused-3, records}
+use Rattle.tray.specs.Check.{check_tray_answer, Says, refused-1, refused-2, refused-3, records}
 use Rattle.tray.proofs.Check.Laws.{says}
-use Rattle.tray.proofs.Check.Theorems.{WrongKeyAt, WrongKindAt, answers-records, refuses-2, refuses-3}
+use Rattle.tray.specs.Check.Theorems.{WrongKeyAt, WrongKindAt}
+use Rattle.tray.proofs.Check.Theorems.{answers-records, refuses-2, refuses-3}
 use Rattle.tray.specs.Meaning.{runs_of}
 use Rattle.index.specs.Layout.{segments_of, IndexFramed}
 use Rattle.index.specs.Rules.{Accepted}
@@ -30,7 +31,9 @@ use Rattle.build_spec.specs.declared.BuildAnswer.{BuildAnswer}
 use Rattle.build_spec.specs.declared.BuildAnswer.TheVariants.{Written, Refused}
 use Rattle.build_spec.specs.Build.{index_bytes, index_size, size_fits, after_check, build_answer, build_leaves}
 use Rattle.build_spec.proofs.Build.Bytes.{length-index_bytes}
-use Rattle.build_spec.proofs.Build.Theorems.{SizeFits, sound-ready, built-frame, built-accepted}
+use Rattle.build_spec.specs.Build.Theorems.{SizeFits}
+use Rattle.build_spec.proofs.Build.Theorems.{sound-ready, built-frame, built-accepted}
+use Rattle.build_spec.specs.Build.Answers.{Builds, When, Leaves}
 
 -- a D that the test admits fits,
 pub size_fits_lem : (h d : ℕ) → size_fits h d ≡ true → SizeFits h d
@@ -43,46 +46,24 @@ unfolding size_fits
 fits-size s = and-true (le-leb _ _ s.least) (le-leb _ _ s.most)
 
 module _ (t : List ℕ) where
-  -- the tray is sound, D fits it, and its index has n bytes
-  pub record Builds (d n : ℕ) : Type 0 where
-    pub sound : Sound t
-    pub size : SizeFits (run_count t) d
-    pub bytes : n ≡ index_size d (runs_of t)
-
   module _ (d room : ℕ) where
-    -- the table for build, in its order 1, 6, 3/2, 7: when each answer is given; the other refusals never are
-    abbrev pub When : BuildAnswer → Type 0
-    When (Refused TrayFrame) = Framed t → ⊥
-    When (Refused (SegmentSize n)) = Framed t × (SizeFits (run_count t) d → ⊥) × (n ≡ d)
-    When (Refused (RecordKind n)) = SizeFits (run_count t) d × WrongKindAt t n
-    When (Refused (KeyOrder n)) = SizeFits (run_count t) d × WrongKeyAt t n
-    When (Refused (Room n)) = Builds d n × (room < n)
-    When (Written n) = Builds d n × (n ≤ room)
-    When (Refused IndexFrame) = ⊥
-    When (Refused (Segment n)) = ⊥
-    When (Refused (Bounds n)) = ⊥
-    When (Refused (PrefixEnd n)) = ⊥
-    When (Refused (Lost g s)) = ⊥
-    When (Refused (Cursor n)) = ⊥
-    When (Refused (RunLength n)) = ⊥
-
     -- after frame and D, what the check says decides
-    when-checked : {a : TrayAnswer} → Framed t → SizeFits (run_count t) d → Says t a → When (after_check d (runs_of t) room a)
+    when-checked : {a : TrayAnswer} → Framed t → SizeFits (run_count t) d → Says t a → When t d room (after_check d (runs_of t) room a)
     unfolding after_check
     when-checked f s (refused-1 x) = absurd (x f)
     when-checked f s (refused-2 n r p _ a ra u k) = (s, (r, p, record { frame = f; numbered = a; before = ra }, u, k))
     when-checked f s (refused-3 n r p _ a ra u) = (s, (r, p, record { frame = f; numbered = a; before = ra }, u))
     when-checked f s (records sound) =
-        let needs : Builds d (index_size d (runs_of t)) = record { sound = sound; size = s; bytes = refl } in
-        split When (leb (index_size d (runs_of t)) room) (λ y. (needs, leb-true _ _ y)) (λ n. (needs, leb-false _ _ n))
+        let needs : Builds t d (index_size d (runs_of t)) = record { sound = sound; size = s; bytes = refl } in
+        split (When t d room) (leb (index_size d (runs_of t)) room) (λ y. (needs, leb-true _ _ y)) (λ n. (needs, leb-false _ _ n))
 
     -- the table gives build's answer,
-    build-when : When (build_answer t d room)
+    build-when : When t d room (build_answer t d room)
     unfolding build_answer
     build-when = go (framed t) refl (size_fits (run_count t) d) refl
       where
         go : (b : Bool) → framed t ≡ b → (c : Bool) → size_fits (run_count t) d ≡ c
-            → When (cond b (cond c (after_check d (runs_of t) room (check_tray_answer t)) (Refused (SegmentSize d))) (Refused TrayFrame))
+            → When t d room (cond b (cond c (after_check d (runs_of t) room (check_tray_answer t)) (Refused (SegmentSize d))) (Refused TrayFrame))
         go false e c k = λ f. clash (fits-framed t f) e
         go true e false k = (framed-fits t e, λ s. clash (fits-size s) k, refl)
         go true e true k = when-checked (framed-fits t e) (size_fits_lem _ _ k) (says t)
@@ -93,14 +74,14 @@ module _ (t : List ℕ) where
     build-checked f s = rw (fits-framed t f, fits-size s)
 
     -- and where that finds nothing, the room
-    build-sound : {n : ℕ} → Builds d n → build_answer t d room ≡ cond (leb n room) (Written n) (Refused (Room n))
+    build-sound : {n : ℕ} → Builds t d n → build_answer t d room ≡ cond (leb n room) (Written n) (Refused (Room n))
     unfolding after_check
     build-sound w =
         build-checked w.sound.frame w.size
         ∙ rw ((answers-records t (records_before t (run_count t))).1 (w.sound, refl), ← w.bytes)
 
     -- and build gives the table's
-    when-build : (a : BuildAnswer) → When a → build_answer t d room ≡ a
+    when-build : (a : BuildAnswer) → When t d room a → build_answer t d room ≡ a
     unfolding build_answer after_check
     when-build (Refused TrayFrame) w = cases (framed t) (λ y. absurd (w (framed-fits t y))) (λ n. rw n)
     when-build (Refused (SegmentSize n)) w =
@@ -118,11 +99,11 @@ module _ (t : List ℕ) where
     when-build (Refused (RunLength n)) w = absurd w
 
     -- build gives an answer exactly when the table does
-    pub build-says : (a : BuildAnswer) → (build_answer t d room ≡ a) ↔ When a
-    build-says a = (λ e. subst When e build-when, when-build a)
+    pub build-says : (a : BuildAnswer) → (build_answer t d room ≡ a) ↔ When t d room a
+    build-says a = (λ e. subst (When t d room) e build-when, when-build a)
 
     -- without a refusal build answers the bytes written, exactly when the tray is sound, D fits it and the index fits the room
-    pub build-written : (n : ℕ) → (build_answer t d room ≡ Written n) ↔ (Builds d n × (n ≤ room))
+    pub build-written : (n : ℕ) → (build_answer t d room ≡ Written n) ↔ (Builds t d n × (n ≤ room))
     build-written n = build-says (Written n)
 
     -- 1: the tray breaks the header, count or length rules
@@ -142,18 +123,12 @@ module _ (t : List ℕ) where
     build-refuses-2 n = build-says (Refused (KeyOrder n))
 
     -- 7: the output is too short
-    pub build-refuses-7 : (n : ℕ) → (build_answer t d room ≡ Refused (Room n)) ↔ (Builds d n × (room < n))
+    pub build-refuses-7 : (n : ℕ) → (build_answer t d room ≡ Refused (Room n)) ↔ (Builds t d n × (room < n))
     build-refuses-7 n = build-says (Refused (Room n))
-
-  -- what is left in an output where the n bytes of the index were written
-  pub record Leaves (d : ℕ) (out : List ℕ) (n : ℕ) (left : List ℕ) : Type 0 where
-    pub front : take n left ≡ index_bytes d (runs_of t)
-    pub behind : drop n left ≡ drop n out
-    pub long : length left ≡ length out
 
   module _ (d : ℕ) (out : List ℕ) where
     -- the index stands in front, and past it nothing changes
-    pub leaves-written : (n : ℕ) → build_answer t d (length out) ≡ Written n → Leaves d out n (build_leaves t d out (build_answer t d (length out)))
+    pub leaves-written : (n : ℕ) → build_answer t d (length out) ≡ Written n → Leaves t d out n (build_leaves t d out (build_answer t d (length out)))
     unfolding build_leaves
     leaves-written n e =
         let w = (build-written d (length out) n).0 e in

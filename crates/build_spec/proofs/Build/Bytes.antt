@@ -29,7 +29,9 @@ use Rattle.theory.specs.Listed.{listed}
 use Rattle.index.specs.Layout.{head_size, segment_at}
 use Rattle.index.specs.Rules.{Item, key_of, placeholder, selector_of}
 use Rattle.build_spec.specs.Build.{cuts, anchor_of, offsets_bytes, segment_bytes, segments_bytes, index_bytes, index_size}
-use Rattle.build_spec.proofs.Build.Laws.{Ready, cuts-joined, cuts-most, cuts_fit, cuts-stand, count-before, length-view}
+use Rattle.build_spec.specs.Build.Laws.{Ready}
+use Rattle.build_spec.proofs.Build.Laws.{cuts-joined, cuts-most, cuts_fit, cuts-stand, count-before, length-view}
+use Rattle.build_spec.specs.Build.Bytes.{filled, Low}
 
 -- n numbers of 2 bytes have 2 n,
 length-numbers : (n i : ℕ) (f : ℕ → ℕ) → length (joined (listed n i (λ r. bytes_of 2 (f r)))) ≡ 2 * n
@@ -57,14 +59,6 @@ bytes-map f (a ∷ xs) h = bytes-cons (f a) (map f xs) (h a (Memᴰ.head refl)) 
 bytes-replicate : (n a : ℕ) → a < 256 → Bytes (replicate n a)
 bytes-replicate zero a h = λ j. omega arith
 bytes-replicate (suc n) a h = bytes-cons a (replicate n a) h (bytes-replicate n a h)
-
--- the selectors of records, then n placeholders
-abbrev pub filled : List (List Record) → List Item → ℕ → List ℕ
-filled t own n = map (selector_of t) own ++ replicate n placeholder
-
--- records of runs below 63
-abbrev pub Low : List Item → Type 0
-Low es = All (λ e. e.run < 63) es
 
 -- a run below 63 with any marks is a byte, and not the placeholder
 marked : (r : ℕ) → r < 63 → (b c : Bool) → let v = r + (cond b 128 0 + cond c 0 64) in (v < 256) × (v ≡ placeholder → ⊥)

@@ -13,11 +13,10 @@ use Rattle.std.specs.Prelude.{◌≡◌, refl, ℕ, suc, ◌+◌, ◌*◌, ◌/�
 use Rattle.std.proofs.Common.{sym, ap, ◌∙◌, zero-le, zero-add, arith, length-append, eqb-true}
 use mathlib.Core.List.Memᴰ
 use Rattle.std.proofs.lemmas.Bool.{eqb-false}
-use Rattle.theory.specs.Records.{Record, SoundRecord}
+use Rattle.theory.specs.Records.{Record}
 use Rattle.theory.specs.Rising.{Mem, All, Rises, none, more, Permuted, same, under, exchange, then}
 use Rattle.theory.proofs.Rising.Laws.{rises-left, rises-right}
 use Rattle.theory.specs.Tests.{cases}
-use Rattle.theory.specs.Merge.{Good}
 use Rattle.theory.specs.View.{spread, entries_from, run_at, At, rank, view}
 use Rattle.theory.proofs.View.Entries.{at-run}
 use Rattle.theory.proofs.View.Laws.{view-at, view-rises, view-is}
@@ -31,13 +30,7 @@ use Rattle.theory.proofs.Pack.Laws.{Cut, pack-joined, pack-fits, pack-full, pack
 use Rattle.tray.specs.Meaning.{total}
 use Rattle.index.specs.Rules.{Item, key_of}
 use Rattle.build_spec.specs.Build.{item_key, cuts}
-
--- a tray that an index with segments of d can be built for
-pub record Ready (d : ℕ) (t : List (List Record)) : Type 0 where
-  pub good : Good SoundRecord key_of t
-  pub few : length t ≤ 63
-  pub least : length t ≤ d
-  pub most : d ≤ 128
+use Rattle.build_spec.specs.Build.Laws.{Ready}
 
 module _ {A : Type 0} (f : A → ℕ) where
   -- numbers from low on and below high are at most as many as there are between the two

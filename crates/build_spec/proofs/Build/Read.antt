@@ -4,13 +4,13 @@
 --     read-size, read_count           D and S as they are read
 --     read-frame                      the frame holds
 --     read-segments                   the segments that the bytes spell
-use Rattle.std.specs.Prelude.{◌≡◌, replicate}
+use Rattle.std.specs.Prelude.{◌≡◌}
 use Rattle.std.proofs.Math.Path.{refl, sym}
 use Rattle.std.proofs.Common.{◌∙◌, zero-mul, suc-mul, arith, get_or-drop}
 use Prim.Native.Nat.{ℕ, zero, suc, ◌+◌, ◌-◌, ◌*◌, ◌^◌, ◌≤◌, ◌<◌}
 use Rattle.std.proofs.Math.Nat.{add-zero}
 use mathlib.Core.List.Memᴰ
-use mathlib.Core.List.{List, [], ◌∷◌, ◌++◌, map, append_assoc, append-nil}
+use mathlib.Core.List.{List, [], ◌∷◌, ◌++◌, append_assoc, append-nil}
 use Rattle.std.proofs.Math.ListN.{length, get_or, drop}
 use Rattle.number.specs.Big.{be, bytes_of}
 use Rattle.number.proofs.Big.Laws.{be-drop, be-append-left, be-bytes_of, length-bytes_of}
@@ -22,25 +22,14 @@ use Rattle.theory.proofs.Places.Passed.{count-append}
 use Rattle.theory.specs.Pack.{joined}
 use Rattle.tray.specs.Meaning.{Fits}
 use Rattle.theory.specs.Listed.{listed}
-use Rattle.index.specs.Layout.{Segment, size_of, segment_count, head_size, segment_at, segment_from, segments_of, IndexFramed}
-use Rattle.index.specs.Rules.{Item, placeholder, selector_of}
+use Rattle.index.specs.Layout.{size_of, segment_count, head_size, segment_at, segment_from, segments_of, IndexFramed}
+use Rattle.index.specs.Rules.{Item}
 use Rattle.build_spec.specs.Build.{cuts, anchor_of, offsets_bytes, segment_bytes, segments_bytes, index_bytes, index_size}
-use Rattle.build_spec.proofs.Build.Laws.{Ready, cuts_fit}
-use Rattle.build_spec.proofs.Build.Bytes.{filled, length-offsets_bytes, length-filled, length-segment_bytes, length-index_bytes, cuts-anchor, cuts-count, cuts-few}
-
--- a segment as it is written, after the records before it
-unfoldable pub built_segment : ℕ → List (List Record) → List Item → List Item → Segment
-built_segment d t before own =
-    record {
-      anchor = anchor_of own;
-      offsets = listed (length t) 0 (λ r. count r before);
-      selectors = map (selector_of t) own ++ replicate (d - length own) placeholder;
-    }
-
--- segments as they are written, after the records before them
-unfoldable pub built_segments : ℕ → List (List Record) → List Item → List (List Item) → List Segment
-built_segments d t before [] = []
-built_segments d t before (own ∷ rest) = built_segment d t before own ∷ built_segments d t (before ++ own) rest
+use Rattle.build_spec.specs.Build.Laws.{Ready}
+use Rattle.build_spec.proofs.Build.Laws.{cuts_fit}
+use Rattle.build_spec.specs.Build.Bytes.{filled}
+use Rattle.build_spec.proofs.Build.Bytes.{length-offsets_bytes, length-filled, length-segment_bytes, length-index_bytes, cuts-anchor, cuts-count, cuts-few}
+use Rattle.build_spec.specs.Build.Read.{built_segment, built_segments}
 
 -- a number whose bytes stand at a place
 number_read : (w n p : ℕ) (s z : List ℕ) → n < 256 ^ w → drop p s ≡ bytes_of w n ++ z → be w s p ≡ n

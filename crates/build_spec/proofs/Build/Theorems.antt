@@ -12,14 +12,12 @@ use Rattle.tray.specs.Meaning.Back.{total-runs_of, fits-runs}
 use Rattle.index.specs.Layout.{size_of, segment_count, segments_of, IndexFramed}
 use Rattle.index.specs.Rules.{key_of, Accepted}
 use Rattle.build_spec.specs.Build.{cuts, index_bytes}
-use Rattle.build_spec.proofs.Build.Laws.{Ready, cuts-bound, cuts-most, length-view}
-use Rattle.build_spec.proofs.Build.Read.{built_segments, read-size, read_count, read-frame, read-segments}
+use Rattle.build_spec.specs.Build.Laws.{Ready}
+use Rattle.build_spec.proofs.Build.Laws.{cuts-bound, cuts-most, length-view}
+use Rattle.build_spec.specs.Build.Read.{built_segments}
+use Rattle.build_spec.proofs.Build.Read.{read-size, read_count, read-frame, read-segments}
 use Rattle.build_spec.proofs.Build.Accepted.{accepted-built}
-
--- D fits a tray of h runs: from h to 128
-pub record SizeFits (h d : ℕ) : Type 0 where
-  pub least : h ≤ d
-  pub most : d ≤ 128
+use Rattle.build_spec.specs.Build.Theorems.{SizeFits}
 
 -- D as it is written
 pub built-size : (t : List ℕ) (d : ℕ) → size_of (index_bytes d (runs_of t)) ≡ d

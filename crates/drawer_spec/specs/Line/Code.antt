@@ -34,7 +34,8 @@ use Rattle.walk.specs.Walk.{Walked, stayed, ended, lost}
 use Rattle.answers.specs.Get.{get_answer, get_framed, got_told, refused_get}
 use Rattle.answers.specs.Seek.Hands.{in-frames}
 use Rattle.walk.specs.Reads.{Got, value, absent, get-lost, get, sheet}
-use Rattle.walk.proofs.ReadsLaws.Page.{listing, length-listing}
+use Rattle.walk.specs.Reads.Page.{listing}
+use Rattle.walk.proofs.ReadsLaws.Page.{length-listing}
 use Rattle.answers.specs.declared.SheetAnswer.{SheetAnswer}
 use Rattle.answers.specs.declared.SheetAnswer.TheVariants.{Listed, Refused as SheetRefused}
 use Rattle.answers.specs.Sheet.{prefix_long, prefix_last, listed_in, sheet_told, records_of, sheet_framed, sheet_answer, sheet_leaves}

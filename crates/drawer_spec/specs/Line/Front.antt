@@ -2,7 +2,7 @@
 use Rattle.std.specs.Prelude.{ℕ, ◌≤◌, ◌≡◌, List, length, take}
 use Rattle.answers.specs.Get.{get_answer}
 use Rattle.walk.specs.Reads.{sheet}
-use Rattle.walk.proofs.ReadsLaws.Page.{listing}
+use Rattle.walk.specs.Reads.Page.{listing}
 use Rattle.answers.specs.Sheet.{records_of, sheet_answer}
 use Rattle.drawer_spec.specs.declared.Held.{Held}
 use Rattle.drawer_spec.specs.Line.{room_size, after_get, after_sheet, answer_line}

@@ -14,32 +14,16 @@ use Rattle.tray.specs.Frame.{run_count, records_before, framed, Framed}
 use Rattle.tray.specs.Frame.Laws.{framed-fits, fits-framed}
 use Rattle.tray.specs.Check.{check_tray_answer, Sound, Says, refused-1, refused-2, refused-3, records}
 use Rattle.tray.proofs.Check.Laws.{says}
-use Rattle.tray.proofs.Check.Theorems.{WrongKeyAt, WrongKindAt, answers-records, refuses-2, refuses-3}
+use Rattle.tray.specs.Check.Theorems.{WrongKeyAt, WrongKindAt}
+use Rattle.tray.proofs.Check.Theorems.{answers-records, refuses-2, refuses-3}
 use Rattle.tray.specs.Meaning.{runs_of}
 use Rattle.fold_spec.specs.declared.FoldAnswer.{FoldAnswer}
 use Rattle.fold_spec.specs.declared.FoldAnswer.TheVariants.{Written, Refused}
 use Rattle.fold_spec.specs.Fold.{folded_run, fold_size, bounds_hold, after_check, fold_answer}
-use Rattle.fold_spec.proofs.Fold.Laws.{InBounds}
+use Rattle.fold_spec.specs.Fold.Laws.{InBounds}
+use Rattle.fold_spec.specs.Fold.Answers.{When}
 
 module _ (t : List ℕ) (a b room : ℕ) where
-  -- the table; the other numbers are never given
-  unfoldable pub When : FoldAnswer → Type 0
-  When (Written n) =
-      Sound t × InBounds t a b × (length (folded_run a b (runs_of t)) ≤ 4096) × (fold_size a b (runs_of t) ≤ room) × (n ≡ fold_size a b (runs_of t))
-  When (Refused TrayFrame) = Framed t → ⊥
-  When (Refused (Bounds n)) = Framed t × (b < a ⊎ run_count t ≤ b) × (n ≡ b)
-  When (Refused (RecordKind n)) = InBounds t a b × WrongKindAt t n
-  When (Refused (KeyOrder n)) = InBounds t a b × WrongKeyAt t n
-  When (Refused (RunLength n)) = Sound t × InBounds t a b × (4096 < n) × (n ≡ length (folded_run a b (runs_of t)))
-  When (Refused (Room n)) =
-      Sound t × InBounds t a b × (length (folded_run a b (runs_of t)) ≤ 4096) × (room < n) × (n ≡ fold_size a b (runs_of t))
-  When (Refused IndexFrame) = ⊥
-  When (Refused (Segment g)) = ⊥
-  When (Refused (SegmentSize d)) = ⊥
-  When (Refused (PrefixEnd n)) = ⊥
-  When (Refused (Lost g s)) = ⊥
-  When (Refused (Cursor g)) = ⊥
-
   -- the test of the bounds passes where they hold,
   holds : InBounds t a b → bounds_hold (run_count t) a b ≡ true
   unfolding bounds_hold
@@ -70,7 +54,7 @@ module _ (t : List ℕ) (a b room : ℕ) where
   past-check s h = past-bounds s.frame h ∙ ap (after_check a b (runs_of t) room) ((answers-records t _).1 (s, refl))
 
   -- the answer where the table gives it
-  given : (x : FoldAnswer) → When x → fold_answer t a b room ≡ x
+  given : (x : FoldAnswer) → When t a b room x → fold_answer t a b room ≡ x
   unfolding When after_check fold_answer
   given (Written n) w = past-check w.0 w.1 ∙ rw (le-leb _ _ w.2, le-leb _ _ w.3, w.4)
   given (Refused TrayFrame) w = cases (framed t) (λ f. absurd (w (framed-fits t f))) (λ f. rw f)
@@ -88,27 +72,27 @@ module _ (t : List ℕ) (a b room : ℕ) where
   given (Refused (Cursor g)) w = absurd w
 
   -- what the table says of the answer after the check
-  checked : {x : TrayAnswer} → InBounds t a b → Says t x → When (after_check a b (runs_of t) room x)
+  checked : {x : TrayAnswer} → InBounds t a b → Says t x → When t a b room (after_check a b (runs_of t) room x)
   unfolding When after_check
   checked h (refused-1 x) = x
   checked h (refused-2 n r p f at before kind key) = (h, (r, p, record { frame = f; numbered = at; before = before }, kind, key))
   checked h (refused-3 n r p f at before kind) = (h, (r, p, record { frame = f; numbered = at; before = before }, kind))
   checked h (records s) =
-      split When (leb (length (folded_run a b (runs_of t))) 4096)
-      (λ short. split When (leb (fold_size a b (runs_of t)) room)
+      split (When t a b room) (leb (length (folded_run a b (runs_of t))) 4096)
+      (λ short. split (When t a b room) (leb (fold_size a b (runs_of t)) room)
       (λ fits. (s, h, leb-true _ _ short, leb-true _ _ fits, refl)) (λ fits. (s, h, leb-true _ _ short, leb-false _ _ fits, refl)))
       (λ long. (s, h, leb-false _ _ long, refl))
 
   -- what the table says of the answer
-  answered : When (fold_answer t a b room)
+  answered : When t a b room (fold_answer t a b room)
   unfolding When fold_answer
   answered =
-      split When (framed t)
-      (λ f. split When (bounds_hold (run_count t) a b) (λ h. checked (holds-in h) (says t)) (λ h. (framed-fits t f, fails-out h, refl)))
+      split (When t a b room) (framed t)
+      (λ f. split (When t a b room) (bounds_hold (run_count t) a b) (λ h. checked (holds-in h) (says t)) (λ h. (framed-fits t f, fails-out h, refl)))
       (λ f g. clash (fits-framed t g) f)
 
-  pub fold-says : (x : FoldAnswer) → (fold_answer t a b room ≡ x) ↔ When x
-  fold-says x = (λ e. subst When e answered, given x)
+  pub fold-says : (x : FoldAnswer) → (fold_answer t a b room ≡ x) ↔ When t a b room x
+  fold-says x = (λ e. subst (When t a b room) e answered, given x)
 
   -- written: the tray is sound, the bounds hold, the folded run is not too long and the room suffices; the answer is the bytes
   pub fold-written : (n : ℕ) → (fold_answer t a b room ≡ Written n)

@@ -21,7 +21,7 @@ use Rattle.theory.specs.Lists.{here}
 use Rattle.theory.specs.Rising.{keep}
 use Rattle.theory.specs.Records.{Record, SoundRecord, live}
 use Rattle.theory.specs.Hiding.{same_key}
-use Rattle.theory.specs.Merge.{merged, Chain, done, step}
+use Rattle.theory.specs.Merge.{Chain, done, step}
 use Rattle.theory.proofs.Merge.Chains.{fold-whole, chain-merged, chain-visible, chain-ends, chain-fold-length}
 use Rattle.tray.specs.Frame.{run_count}
 use Rattle.tray.specs.Check.{Sound}
@@ -29,26 +29,12 @@ use Rattle.tray.specs.Meaning.{runs_of}
 use Rattle.tray.specs.Meaning.Laws.{length-runs_of, runs-good}
 use Rattle.tray.specs.Meaning.Back.{fits-runs, runs_of-one}
 use Rattle.fold_spec.specs.declared.FoldAnswer.TheVariants.{Written, Refused}
-use Rattle.fold_spec.specs.Fold.{key_of, folded_run, folded_runs, fold_bytes, fold_size, fold_answer, fold_leaves, Calls, no_call, call}
-use Rattle.fold_spec.proofs.Fold.Laws.{InBounds, Foldable, key_rule, folded_run-whole, fold-sound, fold-bytes, fold-means}
+use Rattle.fold_spec.specs.Fold.{key_of, folded_run, folded_runs, fold_size, fold_answer, fold_leaves, Calls, no_call, call}
+use Rattle.fold_spec.specs.Fold.Laws.{InBounds, Foldable, key_rule}
+use Rattle.fold_spec.proofs.Fold.Laws.{folded_run-whole, fold-sound, fold-bytes, fold-means}
 use Rattle.fold_spec.proofs.Fold.Answers.{fold-written, fold-refuses-12}
 use Rattle.fold_spec.proofs.Fold.Leaves.{leaves-written}
-
--- the merge of all of a tray's runs
-abbrev pub merge_of : List ℕ → List Record
-merge_of t = merged key_of (same_key key_of) (runs_of t)
-
--- everything folded at once: its one run
-abbrev pub whole_run : List ℕ → List Record
-whole_run t = folded_run 0 (run_count t - 1) (runs_of t)
-
--- u is the folded tray
-pub record Gives (t : List ℕ) (a b : ℕ) (u : List ℕ) : Type 0 where
-  pub foldable : Foldable t a b
-  pub is : u ≡ fold_bytes a b (runs_of t)
-  pub sound : Sound u
-  pub bytes : Bytes u
-  pub means : runs_of u ≡ folded_runs a b (runs_of t)
+use Rattle.fold_spec.specs.Fold.Chains.{merge_of, whole_run, Gives, whole_bytes, whole_size}
 
 pub call-gives : {t : List ℕ} {a b n : ℕ} (out : List ℕ) → Sound t → Bytes t → fold_answer t a b (length out) ≡ Written n
     → Gives t a b (take n (fold_leaves t a b out (Written n)))
@@ -135,13 +121,6 @@ calls-meet s bytes c one d one₂ =
     let after = calls-sound s bytes c in
     let after₂ = calls-sound s bytes d in
     runs_of-one after.0.frame after.1 after₂.0.frame after₂.1 (calls-one s bytes c one ∙ sym (calls-one s bytes d one₂))
-
--- everything folded at once, as bytes, and how many they are
-abbrev pub whole_bytes : List ℕ → List ℕ
-whole_bytes t = fold_bytes 0 (run_count t - 1) (runs_of t)
-
-abbrev pub whole_size : List ℕ → ℕ
-whole_size t = fold_size 0 (run_count t - 1) (runs_of t)
 
 module _ {t : List ℕ} (s : Sound t) (bytes : Bytes t) where
   -- the bounds of all runs

@@ -16,8 +16,7 @@ use Rattle.number.specs.Big.{Bytes}
 use Rattle.theory.specs.Lists.{here}
 use Rattle.theory.specs.Rising.{Mem, All, Rises}
 use Rattle.theory.specs.Records.{Record, SoundRecord}
-use Rattle.theory.specs.Hiding.{Rule, same_key}
-use Rattle.theory.proofs.Hiding.Laws.{same_key-rule}
+use Rattle.theory.specs.Hiding.{same_key}
 use Rattle.theory.specs.Merge.{merged, fold, Good}
 use Rattle.theory.proofs.Merge.Hidden.{NotOld}
 use Rattle.theory.proofs.Merge.Laws.{merged-mem, mem-merged}
@@ -30,10 +29,7 @@ use Rattle.tray.specs.Meaning.Write.{write-back}
 use Rattle.tray.specs.Meaning.Read.{length-tray_bytes, read_back}
 use Rattle.tray.specs.Meaning.Back.{sound_back, bytes_back, fits-runs}
 use Rattle.fold_spec.specs.Fold.{key_of, folded_run, folded_runs, fold_bytes, fold_size}
-
--- edition 0's rule, over any property of records
-abbrev pub key_rule : (Ok : Record → Type 0) → Rule Ok key_of (same_key key_of)
-key_rule Ok = same_key-rule Ok key_of
+use Rattle.fold_spec.specs.Fold.Laws.{key_rule, Foldable}
 
 pub folded_run-says : (a b : ℕ) (t : List (List Record)) (x : Record)
     → Mem x (folded_run a b t) ↔ NotOld (same_key key_of) x (take (suc b - a) (drop a t))
@@ -52,18 +48,6 @@ folded_run-whole t l = ap (merged key_of (same_key key_of)) (take_all (suc (leng
 pub length-fold_bytes : (a b : ℕ) (t : List (List Record)) → length (fold_bytes a b t) ≡ fold_size a b t
 unfolding fold_bytes fold_size
 length-fold_bytes a b t = length-tray_bytes (folded_runs a b t)
-
--- the bounds hold: a is at most b, and b is a run of the tray
-pub record InBounds (t : List ℕ) (a b : ℕ) : Type 0 where
-  pub order : a ≤ b
-  pub within : b < run_count t
-
--- a sound tray, bounds that hold, and a folded run that is not too long
-pub record Foldable (t : List ℕ) (a b : ℕ) : Type 0 where
-  pub sound : Sound t
-  pub bytes : Bytes t
-  pub bounds : InBounds t a b
-  pub short : length (folded_run a b (runs_of t)) ≤ 4096
 
 pub all-folded : (P : List Record → Type 0) {a b : ℕ} {t : List (List Record)} → a ≤ b
     → All P t → P (folded_run a b t) → All P (folded_runs a b t)

@@ -2,7 +2,7 @@
 --     front-written              a list that is written whole at the front
 --     leaves-written             the folded tray at the front, what was there after it, and the same length
 --     leaves-refused             what was there
-use Rattle.std.specs.Prelude.{◌≡◌, refl, ℕ, ◌+◌, ◌≤◌, List, length, take, drop}
+use Rattle.std.specs.Prelude.{◌≡◌, refl, ℕ, ◌+◌, ◌≤◌, List, length}
 use Rattle.std.proofs.Common.{arith, zero-add}
 use Rattle.refusal.specs.declared.Refusal.{Refusal}
 use Rattle.number.specs.Big.{put}
@@ -12,12 +12,7 @@ use Rattle.fold_spec.specs.declared.FoldAnswer.TheVariants.{Written, Refused}
 use Rattle.fold_spec.specs.Fold.{fold_bytes, fold_answer, fold_leaves}
 use Rattle.fold_spec.proofs.Fold.Laws.{length-fold_bytes}
 use Rattle.fold_spec.proofs.Fold.Answers.{fold-written}
-
--- an output s after ys was written at its front, n bytes of it
-pub record Front (s ys out : List ℕ) (n : ℕ) : Type 0 where
-  pub front : take n out ≡ ys
-  pub behind : drop n out ≡ drop n s
-  pub same : length out ≡ length s
+use Rattle.fold_spec.specs.Fold.Leaves.{Front}
 
 -- what is written whole at the front
 pub front-written : (s ys : List ℕ) (n : ℕ) → n ≡ length ys → n ≤ length s → Front s ys (put s 0 ys) n

@@ -34,16 +34,8 @@ use Rattle.tray.specs.Meaning.Laws.{run_in, length-runs_of, run_at-runs_of, runs
 use Rattle.tray.specs.Meaning.Read.{read_back}
 use Rattle.tray.specs.Meaning.Back.{sound_back, bytes_back, fits-runs}
 use Rattle.fold_spec.specs.Fold.{key_of, folded_run, folded_runs, fold_bytes}
-use Rattle.fold_spec.proofs.Fold.Laws.{Foldable, key_rule}
-use Rattle.fold_spec.proofs.Fold.Chains.{merge_of}
-
--- the runs without run r
-unfoldable pub without : {A : Type 0} → ℕ → List A → List A
-without r rs = take r rs ++ drop (suc r) rs
-
--- a tray's bytes without its run r
-unfoldable pub without_run : ℕ → List ℕ → List ℕ
-without_run r t = tray_bytes (without r (runs_of t))
+use Rattle.fold_spec.specs.Fold.Laws.{key_rule}
+use Rattle.fold_spec.specs.Fold.Nothing.{without, without_run, Removed, AddsNothing}
 
 -- the others are of the same sort,
 all_without : {A : Type 0} {P : A → Type 0} (r : ℕ) {rs : List A} (d : A) → r < length rs → All P rs → All P (without r rs)
@@ -57,12 +49,6 @@ all_without {P = P} r {rs} d l all a m =
 length_without : {A : Type 0} (r : ℕ) (rs : List A) → r < length rs → length (without r rs) ≡ length rs - 1
 unfolding without
 length_without r rs l = simp (length-append, length-take, length-drop) (omega arith)
-
--- the tray without run r is a sound tray of the other runs
-pub record Removed (t : List ℕ) (r : ℕ) : Type 0 where
-  pub sound : Sound (without_run r t)
-  pub bytes : Bytes (without_run r t)
-  pub runs : runs_of (without_run r t) ≡ without r (runs_of t)
 
 pub without-run : {t : List ℕ} (r : ℕ) → Sound t → Bytes t → 2 ≤ run_count t → r < run_count t → Removed t r
 unfolding without_run
@@ -108,13 +94,6 @@ module _ {rs : List (List Record)} (good : Good SoundRecord key_of rs) (a : ℕ)
   newer-left : over key_of (same_key key_of) (run_at rs a) (run_at rs (suc a)) ≡ run_at rs a → folded_runs a (suc a) rs ≡ without (suc a) rs
   unfolding without run_at
   newer-left e = let inside : a < length rs = omega arith in pair-folded ∙ rw (e, take-suc rs a [] inside, append_assoc)
-
--- runs a and a + 1 folded leave the tray without run i, no length refuses them, and what is read stays
-pub record AddsNothing (t : List ℕ) (a i : ℕ) : Type 0 where
-  pub removed : Removed t i
-  pub foldable : Foldable t a (suc a)
-  pub folds : fold_bytes a (suc a) (runs_of t) ≡ without_run i t
-  pub merge : merge_of (without_run i t) ≡ merge_of t
 
 module _ {t : List ℕ} (s : Sound t) (bytes : Bytes t) where
   -- from the fold of the runs

@@ -1,5 +1,6 @@
 -- `hexadecimal::fault` meets its contract: the ways out part the characters at 0, 9, a and f.
 use Rattle.hexadecimal.specs.Hex.Code.{fault-before, fault-figure, fault-between, fault-letter, fault-behind}
+use native.Mathlib.Omega.{arith}
 use Rattle.hexadecimal.proofs.fault.Goals as goal
 
 pub returns-then-c-lt48 : goal.returns-then-c-lt48
@@ -16,9 +17,7 @@ returns-then-c-lt97 c =
     fault-between _ if2.false c.if-c-lt97.true
 
 pub returns-then-c-le102 : goal.returns-then-c-le102
-returns-then-c-le102 c =
-    let if3 = c.if-c-lt97 in
-    fault-letter _ if3.false c.if-c-le102.true
+returns-then-c-le102 c = fault-letter _ (omega arith) c.if-c-le102.true
 
 pub returns : goal.returns
 returns c = fault-behind _ c.if-c-le102.false

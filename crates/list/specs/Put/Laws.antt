@@ -9,7 +9,8 @@ use Rattle.number.proofs.Big.Writes.{length-put}
 use Rattle.theory.specs.Records.{Record}
 use Rattle.tray.specs.Run.{record_from}
 use Rattle.walk.specs.Reads.{Written, listed_bytes, write}
-use Rattle.walk.proofs.ReadsLaws.Page.{listing, written, length-listed, write-more}
+use Rattle.walk.specs.Reads.Page.{listing, written}
+use Rattle.walk.proofs.ReadsLaws.Page.{length-listed, write-more}
 use Rattle.list.specs.Put.{put_all}
 
 pub put_all-more : (t bs : List ℕ) (a count : ℕ) (out : List ℕ)

@@ -4,12 +4,7 @@ use Rattle.std.specs.Prelude.{◌≡◌, refl, ℕ, suc, ◌+◌, ◌≤◌, ◌
 use Rattle.std.proofs.Common.{sym, ap, ◌∙◌, add-zero, add-one, arith, length-set, drop_of_length-le, drop-cons}
 use Rattle.number.specs.Big.{put}
 use Rattle.number.proofs.Big.Writes.{put-nil, put-cons}
-
--- the bytes from place i of a part on have still to be copied
-pub record Copying (part : List ℕ) (at : ℕ) (out₀ out : List ℕ) (i : ℕ) : Type 0 where
-  pub within : i ≤ length part
-  pub room : length out ≡ length out₀
-  pub same : put out (at + i) (drop i part) ≡ put out₀ at part
+use Rattle.number.specs.Big.Copies.{Copying}
 
 pub copying-none : (part : List ℕ) (at : ℕ) (out : List ℕ) → Copying part at out out 0
 copying-none part at out = record { within = omega arith; room = refl; same = rw add-zero }

@@ -1,4 +1,4 @@
-use Rattle.number.proofs.Big.Copies.{Copying}
+use Rattle.number.specs.Big.Copies.{Copying}
 use lib.ListN.{length}
 use Prim.Native.Nat.{◌-◌}
 use Rattle.number.proofs.copy.Given as goal

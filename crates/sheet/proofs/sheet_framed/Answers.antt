@@ -22,10 +22,9 @@ returns-then-prefix-k c = let if2 = c.if-k-gt8 in record { value = framed-last _
 pub high_key-requires : goal.high_key-requires
 high_key-requires c =
     let if3 = c.if-prefix-k in
-    let if2 = c.if-k-gt8 in
     let shared-slice-known3 = c.shared_slice_known-3-1 in
     let args = c.args in
-    (omega arith, if2.false, omega (arith, if3.false, shared-slice-known3.given (length args.prefix.now - 1)))
+    (omega arith, omega arith, omega (arith, if3.false, shared-slice-known3.given (length args.prefix.now - 1)))
 
 pub returns : goal.returns
 returns c =

@@ -16,21 +16,14 @@ use Rattle.tray.specs.declared.TrayAnswer.{TrayAnswer}
 use Rattle.tray.specs.declared.TrayAnswer.TheVariants.{Records, Refused}
 use Rattle.tray.specs.Frame.{run_count, count_of, records_before, run_bytes, framed, Framed}
 use Rattle.tray.specs.Frame.Laws.{framed-fits, fits-framed, upto, records_before-next, records_before-le}
-use Rattle.tray.specs.Run.{record_at, kind_wrong, key_wrong}
+use Rattle.tray.specs.Run.{record_at, kind_wrong}
 use Rattle.tray.specs.Run.Laws.{Fine, Judged, all-fine, kind_at, key-at, judged, fine-sound, sound-fine, key-rises, rises-key, first_key}
 use Rattle.tray.specs.Check.{after_run, check_runs, check_tray_answer, Sound, Numbered, RightBefore, Says, refused-1, refused-2, refused-3, records}
+use Rattle.tray.specs.Check.Laws.{FineRun, FineRuns, Wrong, kind-wrong, key-wrong}
 
 module _ (t : List ℕ) where
-  -- all records of run r are right
-  abbrev FineRun : ℕ → Type 0
-  FineRun r = (i : ℕ) → i < count_of t r → Fine (run_bytes t r) i
-
-  -- all records of the runs before run r are right
-  abbrev FineRuns : ℕ → Type 0
-  FineRuns r = (q : ℕ) → q < r → FineRun q
-
   -- record (q, i) comes before record (r, p)
-  fine-at : (r p : ℕ) → p < count_of t r → FineRuns r → ((i : ℕ) → i < p → Fine (run_bytes t r) i)
+  fine-at : (r p : ℕ) → p < count_of t r → FineRuns t r → ((i : ℕ) → i < p → Fine (run_bytes t r) i)
       → (q i : ℕ) → i < count_of t q → records_before t q + i < records_before t r + p → Fine (run_bytes t q) i
   fine-at r p l before here q i k h =
       order q r (λ b. before q b i k)
@@ -41,13 +34,13 @@ module _ (t : List ℕ) where
       absurd (omega arith))
 
   -- right up to place p of run r
-  right-before : (r p : ℕ) → p < count_of t r → FineRuns r → ((i : ℕ) → i < p → Fine (run_bytes t r) i) → RightBefore t (records_before t r + p)
+  right-before : (r p : ℕ) → p < count_of t r → FineRuns t r → ((i : ℕ) → i < p → Fine (run_bytes t r) i) → RightBefore t (records_before t r + p)
   right-before r p l before here m q i num h =
       let e : m ≡ records_before t q + i = num.number in
       let f = fine-at r p l before here q i num.inside (omega arith) in
       (f.kind, f.key)
 
-  fine-soundly : Framed t → FineRuns (run_count t) → Sound t
+  fine-soundly : Framed t → FineRuns t (run_count t) → Sound t
   fine-soundly f fine =
       record {
         frame = f;
@@ -56,14 +49,14 @@ module _ (t : List ℕ) where
       }
 
   -- k runs from run r on, those before it being right
-  says-from : (k r : ℕ) → r + k ≡ run_count t → Framed t → FineRuns r → Says t (check_runs k t r)
+  says-from : (k r : ℕ) → r + k ≡ run_count t → Framed t → FineRuns t r → Says t (check_runs k t r)
   unfolding check_runs after_run
   says-from zero r e f fine =
       let z : r ≡ run_count t = omega arith in
-      subst (λ n. Says t (Records (records_before t n))) (sym z) (records (fine-soundly f (subst FineRuns z fine)))
+      subst (λ n. Says t (Records (records_before t n))) (sym z) (records (fine-soundly f (subst (FineRuns t) z fine)))
   says-from (suc k) r e f fine = go (judged (run_bytes t r) (count_of t r) 0) (λ h. says-from k (suc r) (omega arith) f (upto fine h))
     where
-      go : {a : RunAnswer} → Judged (run_bytes t r) 0 (count_of t r) a → (FineRun r → Says t (check_runs k t (suc r)))
+      go : {a : RunAnswer} → Judged (run_bytes t r) 0 (count_of t r) a → (FineRun t r → Says t (check_runs k t (suc r)))
           → Says t (after_run (records_before t r) a (check_runs k t (suc r)))
       go (all-fine g) next = next (λ i l. g i (omega arith) (omega arith))
       go (kind_at q l h g w) next =
@@ -100,17 +93,12 @@ module _ (t : List ℕ) where
       let y : n ≡ records_before t q + i = b.number in
       (e, omega arith)
 
-  -- the two ways of being wrong
-  pub data Wrong (r p : ℕ) : Type 0 where
-    kind-wrong : kind_wrong (record_at (run_bytes t r) p) ≡ true → Wrong r p
-    key-wrong : key_wrong (run_bytes t r) p ≡ true → Wrong r p
-
-  wrong-fine : {n m r p : ℕ} {Q : Type 0} → Numbered t n r p → Wrong r p → RightBefore t m → n < m → Q
+  wrong-fine : {n m r p : ℕ} {Q : Type 0} → Numbered t n r p → Wrong t r p → RightBefore t m → n < m → Q
   wrong-fine num (kind-wrong w) right l = clash w (right _ _ _ num l).0
   wrong-fine num (key-wrong w) right l = clash w (right _ _ _ num l).1
 
   -- the first wrong record is one
-  wrong-one : {n m r p q i : ℕ} → Numbered t n r p → Numbered t m q i → RightBefore t n → RightBefore t m → Wrong r p → Wrong q i → n ≡ m
+  wrong-one : {n m r p q i : ℕ} → Numbered t n r p → Numbered t m q i → RightBefore t n → RightBefore t m → Wrong t r p → Wrong t q i → n ≡ m
   wrong-one {n} {m} a b ra rb u v = order n m (λ l. wrong-fine a u rb l) (λ e. e) (λ l. wrong-fine b v ra l)
 
   -- at one record the kind comes first
@@ -119,7 +107,7 @@ module _ (t : List ℕ) where
   kind-first a b u v = let e = numbered-one a b in clash (ap₂ (λ x y. kind_wrong (record_at (run_bytes t x) y)) (sym e.0) (sym e.1) ∙ u) v
 
   -- in a sound tray no record is wrong
-  sound-right : {n r p : ℕ} {Q : Type 0} → Sound t → Numbered t n r p → Wrong r p → Q
+  sound-right : {n r p : ℕ} {Q : Type 0} → Sound t → Numbered t n r p → Wrong t r p → Q
   sound-right {p = p} s num (kind-wrong w) = clash w (sound-fine _ (s.kinds _ _ num.run num.inside))
   sound-right {p = zero} s num (key-wrong w) = clash w (first_key _)
   sound-right {p = suc p} s num (key-wrong w) = clash w (rises-key _ _ (s.keys _ _ num.run num.inside))

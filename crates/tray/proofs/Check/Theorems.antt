@@ -1,30 +1,16 @@
 -- Check tray in the table's words (docs/RULES.md, "Refusals by number"): each answer exactly when.
-use Rattle.std.specs.Prelude.{◌≡◌, refl, ◌↔◌, ℕ, true, false, List}
+use Rattle.std.specs.Prelude.{◌≡◌, refl, ◌↔◌, ℕ, List}
 use Rattle.std.proofs.Common.{sym, subst}
 use Rattle.theory.specs.Tests.{never}
 use Rattle.refusal.specs.declared.Refusal.TheVariants.{TrayFrame, KeyOrder, RecordKind}
 use Rattle.tray.specs.declared.TrayAnswer.{TrayAnswer}
 use Rattle.tray.specs.declared.TrayAnswer.TheVariants.{Records, Refused}
-use Rattle.tray.specs.Frame.{run_count, records_before, run_bytes, Framed}
-use Rattle.tray.specs.Run.{record_at, kind_wrong, key_wrong}
+use Rattle.tray.specs.Frame.{run_count, records_before, Framed}
 use Rattle.tray.specs.Check.{check_tray_answer, Sound, Numbered, RightBefore, Says, refused-1, refused-2, refused-3, records}
 use Rattle.tray.proofs.Check.Laws.{check-says}
+use Rattle.tray.specs.Check.Theorems.{WrongKeyAt, WrongKindAt}
 
 module _ (t : List ℕ) where
-  -- record n stands at place p of run r, in a tray with the frame, and every record before it is right
-  pub record First (n r p : ℕ) : Type 0 where
-    pub frame : Framed t
-    pub numbered : Numbered t n r p
-    pub before : RightBefore t n
-
-  -- record n is the first wrong one, its kind is right, and its key is not above the one before it in its run
-  abbrev pub WrongKeyAt : ℕ → Type 0
-  WrongKeyAt n = (r : ℕ) × (p : ℕ) × First n r p × (kind_wrong (record_at (run_bytes t r) p) ≡ false) × (key_wrong (run_bytes t r) p ≡ true)
-
-  -- record n is the first wrong one: its kind is above 1, or it is gone and has a value
-  abbrev pub WrongKindAt : ℕ → Type 0
-  WrongKindAt n = (r : ℕ) × (p : ℕ) × First n r p × (kind_wrong (record_at (run_bytes t r) p) ≡ true)
-
   -- without a refusal check tray answers the records, and that exactly when the tray is sound
   pub answers-records : (n : ℕ) → (check_tray_answer t ≡ Records n) ↔ (Sound t × (n ≡ records_before t (run_count t)))
   answers-records n = (λ e. from ((check-says t (Records n)).0 e) refl, λ s. (check-says t (Records n)).1 (subst (λ m. Says t (Records m)) (sym s.1) (records s.0)))
@@ -46,13 +32,13 @@ module _ (t : List ℕ) where
       from (records s) e = never (cc)
 
   -- 2: a key is the first thing wrong
-  pub refuses-2 : (n : ℕ) → (check_tray_answer t ≡ Refused (KeyOrder n)) ↔ WrongKeyAt n
+  pub refuses-2 : (n : ℕ) → (check_tray_answer t ≡ Refused (KeyOrder n)) ↔ WrongKeyAt t n
   refuses-2 n = (
     λ e. from ((check-says t (Refused (KeyOrder n))).0 e) refl,
     λ w. (check-says t (Refused (KeyOrder n))).1 (refused-2 n w.0 w.1 w.2.frame w.2.numbered w.2.before w.3 w.4),
   )
     where
-      from : {a : TrayAnswer} → Says t a → a ≡ Refused (KeyOrder n) → WrongKeyAt n
+      from : {a : TrayAnswer} → Says t a → a ≡ Refused (KeyOrder n) → WrongKeyAt t n
       from (refused-1 x) e = never (cc)
       from (refused-2 m r p f a ra u k) e =
           let z : m ≡ n = cc in
@@ -61,13 +47,13 @@ module _ (t : List ℕ) where
       from (records s) e = never (cc)
 
   -- 3: a kind is
-  pub refuses-3 : (n : ℕ) → (check_tray_answer t ≡ Refused (RecordKind n)) ↔ WrongKindAt n
+  pub refuses-3 : (n : ℕ) → (check_tray_answer t ≡ Refused (RecordKind n)) ↔ WrongKindAt t n
   refuses-3 n = (
     λ e. from ((check-says t (Refused (RecordKind n))).0 e) refl,
     λ w. (check-says t (Refused (RecordKind n))).1 (refused-3 n w.0 w.1 w.2.frame w.2.numbered w.2.before w.3),
   )
     where
-      from : {a : TrayAnswer} → Says t a → a ≡ Refused (RecordKind n) → WrongKindAt n
+      from : {a : TrayAnswer} → Says t a → a ≡ Refused (RecordKind n) → WrongKindAt t n
       from (refused-1 x) e = never (cc)
       from (refused-2 m r p f a ra u k) e = never (cc)
       from (refused-3 m r p f a ra u) e =

@@ -6,7 +6,7 @@
 --     room, paged          how many records fit, and what a page of these stops comes to
 --     page-is              a page is that
 -- Not here: pages put together, which are in `Pages.antt`.
-use Rattle.std.specs.Prelude.{◌≡◌, ℕ, zero, suc, ◌+◌, ◌*◌, ◌/◌, ◌≤◌, ◌<◌, cond, length, take, drop, leb}
+use Rattle.std.specs.Prelude.{◌≡◌, ℕ, zero, suc, ◌+◌, ◌*◌, ◌≤◌, ◌<◌, cond, length, take, drop, leb}
 use Rattle.std.proofs.Math.Path.{refl}
 use Rattle.std.proofs.Common.{sym, ap, ap₂, ◌∙◌, subst, add-zero, arith, length-append, length-drop, take_at, drop-drop, le-leb}
 use mathlib.Core.List.Memᴰ
@@ -17,22 +17,14 @@ use Rattle.number.specs.Big.{put}
 use Rattle.number.proofs.Big.Laws.{length-bytes_of}
 use Rattle.theory.specs.Records.{Record}
 use Rattle.theory.specs.Rising.{Mem, keep}
-use Rattle.walk.specs.Walk.{Spot, Visit, stay, go, Walked}
+use Rattle.walk.specs.Walk.{Spot, Visit, stay, go}
 use Rattle.walk.specs.Walk.Spots.{Reading, Stop}
 use Rattle.walk.specs.Walk.Tours.{after, tour_then, tour, first_of, tour-same, tour-kept}
 use Rattle.walk.specs.Walk.Segment.{seen}
 use Rattle.walk.specs.Reads.Shown.{point_of, is_shown, Shows, stop-shows}
 use Rattle.walk.specs.Reads.Standing.{Standing, walk-standing, standing_on}
 use Rattle.walk.specs.Reads.{Written, listed_bytes, write, page_visit, page}
-
--- the bytes of some records, 24 each
-unfoldable pub listing : List Record → List ℕ
-listing [] = []
-listing (e ∷ es) = listed_bytes e ++ listing es
-
--- the output with some records written, and the rest as it was
-unfoldable pub written : List Record → List ℕ → Written
-written es out = record { count = length es; out = listing es ++ drop (24 * length es) out }
+use Rattle.walk.specs.Reads.Page.{listing, written, room, paged}
 
 pub listing-append : (es fs : List Record) → listing (es ++ fs) ≡ listing es ++ listing fs
 unfolding listing
@@ -47,15 +39,6 @@ pub length-listing : (es : List Record) → length (listing es) ≡ 24 * length 
 unfolding listing
 length-listing [] = refl
 length-listing (e ∷ es) = simp length-append (omega (arith, length-listed e, length-listing es))
-
--- how many records fit
-abbrev pub room : List ℕ → ℕ
-room out = length out / 24
-
--- what a page of these stops comes to: the first that fit are written; it stays at the first that does not, or ends
-unfoldable pub paged : List Stop → List ℕ → Walked Written (Written × Spot)
-paged qs out =
-    let done = written (map point_of (take (room out) qs)) out in first_of (λ p. (done, p.spot)) (drop (room out) qs) done
 
 -- bytes written after others
 put-behind : (xs ys out : List ℕ) (n m : ℕ) → length xs ≡ n → length ys ≡ m

@@ -19,22 +19,10 @@ use Rattle.walk.specs.Walk.Spots.{Reading, Stop}
 use Rattle.walk.specs.Walk.Tours.{first_of}
 use Rattle.walk.specs.Reads.Shown.{point_of, is_shown}
 use Rattle.walk.specs.Reads.Standing.{Standing, standing-kept}
-use Rattle.walk.proofs.ReadsLaws.Page.{listing, written, listing-append, length-listing, room, paged, page-is}
+use Rattle.walk.specs.Reads.Page.{listing, written, room, paged}
+use Rattle.walk.proofs.ReadsLaws.Page.{listing-append, length-listing, page-is}
 use Rattle.walk.specs.Reads.{Written, page}
-
--- the bytes that a page has written
-abbrev pub bytes_in : Written → List ℕ
-bytes_in w = take (24 * w.count) w.out
-
--- pages from a cursor on, page number i into its own output: what they have written, put together
-pub data Pages (t x : List ℕ) (outs : ℕ → List ℕ) : ℕ → Spot → List ℕ → Type 0 where
-  pages-end : {i : ℕ} {c : Spot} {w : Written} → page t x c (outs i) ≡ ended w → Pages t x outs i c (bytes_in w)
-  pages-on : {i : ℕ} {c c' : Spot} {w : Written} {bytes : List ℕ} → page t x c (outs i) ≡ stayed (w, c')
-      → Pages t x outs (suc i) c' bytes → Pages t x outs i c (bytes_in w ++ bytes)
-
--- the records that a page of these stops writes
-abbrev pub fitting : List Stop → List ℕ → List Record
-fitting qs out = map point_of (take (room out) qs)
+use Rattle.walk.specs.Reads.Pages.{bytes_in, Pages, fitting, pages-end, pages-on}
 
 first-stays : {d w : Written} {c : Spot} (ps : List Stop)
     → ◌≡◌ {A = Walked Written (Written × Spot)} (first_of (λ p. (d, p.spot)) ps d) (stayed (w, c))

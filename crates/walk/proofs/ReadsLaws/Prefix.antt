@@ -24,7 +24,7 @@ use Rattle.index.specs.Rules.{key_of}
 use Rattle.walk.specs.Walk.Spots.{Reading}
 use Rattle.walk.specs.Reads.Shown.{point_of, shown, shown-merged}
 use Rattle.walk.specs.Reads.Seek.{points, shown-shows}
-use Rattle.walk.proofs.ReadsLaws.Sheet.{within}
+use Rattle.walk.specs.Reads.Sheet.{within}
 use Rattle.walk.specs.Reads.{low_key, high_key}
 
 -- zeros spell zero

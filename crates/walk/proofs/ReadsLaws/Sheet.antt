@@ -4,7 +4,7 @@
 --     Lists        a walk that came through, and what it has listed
 --     sheet-is     what sheet lists
 -- Not here: that the bounds are those of a prefix, which is in `Prefix.antt`.
-use Rattle.std.specs.Prelude.{◌≡◌, ℕ, ◌≤◌, Bool, false, cond, ◌&&◌, leb, ltb}
+use Rattle.std.specs.Prelude.{◌≡◌, ℕ, ◌≤◌, Bool, false, cond, leb, ltb}
 use Rattle.std.proofs.Math.Path.{refl, sym, ap, subst}
 use Rattle.std.proofs.Common.{◌∙◌, arith}
 use mathlib.Core.List.Memᴰ
@@ -16,7 +16,7 @@ use Rattle.theory.specs.Rising.{Mem, All, Rises, none, more, keep}
 use Rattle.theory.proofs.Rising.Kept.{rises-keep}
 use Rattle.theory.specs.Tests.{cases}
 use Rattle.index.specs.Rules.{key_of}
-use Rattle.walk.specs.Walk.{Visit, stay, go, Walked, stayed, ended, walk_from}
+use Rattle.walk.specs.Walk.{Visit, stay, go, ended, walk_from}
 use Rattle.walk.specs.Walk.Spots.{Reading, Stop, spots}
 use Rattle.walk.specs.Walk.Tours.{after, tour_then, tour, first_of, tour-same, tour-kept}
 use Rattle.walk.specs.Walk.Segment.{seen}
@@ -26,15 +26,7 @@ use Rattle.walk.specs.Reads.Seek.{is_from, from, seek_is, points}
 use Rattle.walk.specs.Reads.From.{key_at, shown-rises, from_on}
 use Rattle.walk.specs.Reads.Standing.{at-stop, walk-standing}
 use Rattle.walk.specs.Reads.{sheet_visit, low_key, high_key, sheet_from, sheet}
-
--- a walk that came to its bound or to the end, and what it has listed
-pub data Lists : Walked (List Record) (List Record) → List Record → Type 0 where
-  to-bound : {es : List Record} → Lists (stayed es) es
-  to_end : {es : List Record} → Lists (ended es) es
-
--- a record is at or above the lower bound and below the upper one
-abbrev pub within : ℕ → ℕ → Record → Bool
-within low high e = leb low e.key && ltb e.key high
+use Rattle.walk.specs.Reads.Sheet.{Lists, within, to-bound, to_end}
 
 -- nothing is listed of nothing
 lists-none : (test : Record → Bool) → Lists (ended []) (keep test [])

@@ -1,5 +1,6 @@
 -- `index::frame::index_frame` meets its contract: each way out is a test of the frame, in its order.
 use Rattle.index.specs.Layout.Code.{frame-short, frame-runs, frame-low, frame-high, frame-2, frame-3, frame-long, frame-fits}
+use native.Mathlib.Omega.{arith}
 use Rattle.index.proofs.frame.index_frame.Goals as goal
 
 pub returns-then-x-lt8 : goal.returns-then-x-lt8
@@ -49,11 +50,10 @@ returns-then-x-segment_at c =
     let if6 = back.if-x-ne0-2 in
     let back = back in
     let if5 = back.if-x-ne0 in
-    let if4 = back.if-d-gt128 in
     let if3 = back.if-d-h in
     let if2 = back.if-x-h in
     let if1 = back.if-x-lt8 in
-    frame-fits _ _ if1.false if2.false if3.false if4.false if5.false if6.false big4.ensures segment-at.ensures c.if-x-segment_at.true
+    frame-fits _ _ if1.false if2.false if3.false (omega arith) if5.false if6.false big4.ensures segment-at.ensures c.if-x-segment_at.true
 
 pub returns : goal.returns
 returns c =

@@ -3,6 +3,7 @@ use Rattle.walk_cursor.specs.Tested.{told-spot, belongs-low}
 use Rattle.next.specs.Code.{told_is, next-ends, next-off}
 use Rattle.next.specs.Next.{going}
 use Rattle.answers.specs.Code.{walking}
+use native.Mathlib.Omega.{arith}
 use Rattle.next.proofs.calls.next_framed.Goals as goal
 
 pub belongs-requires : goal.belongs-requires
@@ -12,7 +13,6 @@ belongs-requires c =
 
 pub next_from-requires : goal.next_from-requires
 next_from-requires c =
-    let if2 = c.if-g-n in
     let back = c in
     let if1 = back.if-belongs in
     let belongs = back.belongs in
@@ -24,8 +24,8 @@ next_from-requires c =
     let laid = back.requires.laid in record {
       going = going opened laid;
       segment_lt_n = (
-        if2.true,
-        belongs-low (walking opened laid) _ (told-spot _ _ args.from place-numbers.ensures belongs.ensures) if1.true if2.true,
+        omega arith,
+        belongs-low (walking opened laid) _ (told-spot _ _ args.from place-numbers.ensures belongs.ensures) if1.true (omega arith),
       );
       places_value = place-numbers.ensures;
     }

@@ -8,8 +8,7 @@ use Rattle.sheet.proofs.write.write_counted.Goals as goal
 pub put_all-requires : goal.put_all-requires
 put_all-requires c =
     let if2 = c.if-held-count in
-    let if1 = c.if-k-room in
-    let pre = c.requires in record { within = pre.held_in_bounds.1; k_in_bounds = (pre.held_in_bounds.0, omega (arith, if2.true, if1.true)) }
+    let pre = c.requires in record { within = pre.held_in_bounds.1; k_in_bounds = (pre.held_in_bounds.0, omega (arith, if2.true)) }
 
 pub returns-then-held-count : goal.returns-then-held-count
 returns-then-held-count c =

@@ -20,11 +20,10 @@ returns-then-n-gt4096 c =
 pub loop-r-preserved : goal.loop-r-preserved
 loop-r-preserved c =
     let usize-of-u82 = c.usize_of_u8-i in
-    let if1 = c.if-n-gt4096 in
     let count_of = c.count_of-n in
     let loop = c.loop-r in
     let header = c.requires in (
-      read-counts-more _ loop.invariant.0 (omega arith) header.most count_of.ensures if1.false usize-of-u82.ensures c.usize_of_u16.ensures,
+      read-counts-more _ loop.invariant.0 (omega arith) header.most count_of.ensures (omega arith) usize-of-u82.ensures c.usize_of_u16.ensures,
       loop.invariant.1,
     )
 
