@@ -15,6 +15,7 @@ pub fn skip_runs(counts: &[u16], from: usize, to: usize, places: &mut [u16])
 }
 
 // Notes where record n stands. Past 4,096 records the run is too long, and they are only counted.
+#[tactic(auto, using(crate::proofs::Noting::noting))]
 pub fn note(kept: &mut [usize], n: usize, at: usize)
     requires { length kept.old ≡ 4096 }
     ensures { kept.new ≡ noted kept.old n at }
