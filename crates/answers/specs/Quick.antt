@@ -1,5 +1,5 @@
 -- What the quick calls share: cursors as values of the library, and the frames that they test first (docs/RULES.md, "Refusals by number").
-use Rattle.std.specs.Prelude.{ℕ, cond, List, map, replicate}
+use Rattle.std.specs.Prelude.{ℕ, cond, List, map}
 use Rattle.refusal.specs.declared.Refusal.{Refusal}
 use Rattle.refusal.specs.declared.Refusal.TheVariants.{TrayFrame, IndexFrame}
 use Rattle.tray.specs.Frame.{run_count, framed}
@@ -10,14 +10,6 @@ use Rattle.walk.specs.Walk.{Spot}
 -- a cursor as a value of the library
 unfoldable pub cursor_of : Spot → Cursor
 cursor_of c = record { segment = record { 0 = c.segment }; selector = c.selector; places = map (λ (p : ℕ). record { 0 = p }) c.places }
-
--- the cursor of a refused seek
-unfoldable pub no_cursor : Cursor
-no_cursor = record { segment = record { 0 = 0 }; selector = 0; places = replicate 63 (record { 0 = 0 }) }
-
--- the end of an index of n segments, as the code hands it over
-abbrev pub end_at : ℕ → Cursor
-end_at n = record { segment = record { 0 = n }; selector = 0; places = replicate 63 (record { 0 = 0 }) }
 
 -- the quick calls ask 1, then 4, and then what they ask where both frames fit
 unfoldable pub in_frames : {A : Type 0} → (Refusal → A) → List ℕ → List ℕ → A → A

@@ -1,16 +1,15 @@
 -- What the functions of the builder promise each other: how the records of a segment are taken and written. The laws stand below.
 pub mod Merge
-pub mod Only
 pub mod Records
 pub mod Spelled
 pub mod Taken
 pub mod Writes
 use Rattle.std.specs.Prelude.{ℕ, zero, suc, ◌+◌, ◌-◌, ◌*◌, ◌%◌, ◌≤◌, ◌<◌, ◌≡◌, cond, List, length, get_or, set, replicate, eqb, ltb}
-use Rattle.number.specs.Big.{bytes_of, put}
+use Rattle.number.specs.Big.{bytes_of, put, Bytes}
 use Rattle.theory.specs.Records.{live}
 use Rattle.theory.specs.Pack.{joined}
-use Rattle.tray.specs.declared.frame.TrayFrame.{TrayFrame}
-use Rattle.tray.specs.Frame.{run_count, records_before, Opened}
+use Rattle.tray.specs.declared.Tray.{Tray}
+use Rattle.tray.specs.Frame.{run_count, records_before}
 use Rattle.tray.specs.Check.{Sound}
 use Rattle.theory.specs.Listed.{listed}
 use Rattle.index.specs.Scan.{next_in, raise}
@@ -23,10 +22,6 @@ spelling t places mark r = r + (mark + cond (live (next_in t places r)) 0 64)
 -- the mark of a record with key k after one with key `last`
 unfoldable pub old_mark : ℕ → ℕ → ℕ
 old_mark last k = cond (eqb last k) 128 0
-
--- the selector of the first run's next record, which has key k, written at a place after a record with key `last`
-unfoldable pub put_next : List ℕ → List ℕ → List ℕ → ℕ → ℕ → ℕ → List ℕ
-put_next t places seg at last k = set seg at (spelling t places (old_mark last k) 0)
 
 -- a key that is not k
 unfoldable pub other_key : ℕ → ℕ
@@ -94,10 +89,10 @@ pub record Segmented (t : List ℕ) (h d : ℕ) (places seg places' seg' : List 
   pub short : n ≤ d
   pub whole : seg' ≡ put selectors (8 + 2 * h + n) (replicate (d - n) 63)
 
--- a sound tray with its frame, its n records, and a segment size that fits it
-pub record Sounded (t : List ℕ) (d : ℕ) (f : TrayFrame) (n : ℕ) : Type 0 where
-  pub opened : Opened t f
-  pub sound : Sound t
-  pub least : run_count t ≤ d
+-- a sound tray, its n records, and a segment size that fits it
+pub record Sounded (tray : Tray) (d n : ℕ) : Type 0 where
+  pub bytes : Bytes tray.bytes.now
+  pub sound : Sound tray.bytes.now
+  pub least : run_count tray.bytes.now ≤ d
   pub most : d ≤ 128
-  pub records : n ≡ records_before t (run_count t)
+  pub records : n ≡ records_before tray.bytes.now (run_count tray.bytes.now)

@@ -5,23 +5,20 @@ pub mod Theorems
 pub mod Read
 pub mod Bytes
 pub mod Laws
-use Rattle.std.specs.Prelude.{ℕ, ◌-◌, Bool, cond, ◌&&◌, List, [], ◌∷◌, ◌++◌, map, length, replicate, leb}
+use Rattle.refusal.specs.declared.Refusal.{Refusal}
+use Rattle.std.specs.Prelude.{ℕ, ◌-◌, Bool, cond, ◌&&◌, List, [], ◌∷◌, ◌++◌, map, length, replicate, leb, Ok, Err, Result}
 use Rattle.number.specs.Big.{bytes_of, put}
 use Rattle.refusal.specs.declared.Refusal.TheVariants.{TrayFrame, SegmentSize, Room}
 use Rattle.theory.specs.Records.{Record}
 use Rattle.theory.specs.View.{view}
 use Rattle.theory.specs.Places.{count}
 use Rattle.theory.specs.Pack.{joined, groups, pack}
-use Rattle.tray.specs.declared.TrayAnswer.{TrayAnswer}
-use Rattle.tray.specs.declared.TrayAnswer.TheVariants.{Records, Refused as TrayRefused}
 use Rattle.tray.specs.Frame.{run_count, framed}
 use Rattle.tray.specs.Check.{check_tray_answer}
 use Rattle.tray.specs.Meaning.{runs_of}
 use Rattle.theory.specs.Listed.{listed}
 use Rattle.index.specs.Layout.{segment_at}
 use Rattle.index.specs.Rules.{Item, key_of, placeholder, selector_of}
-use Rattle.build_spec.specs.declared.BuildAnswer.{BuildAnswer}
-use Rattle.build_spec.specs.declared.BuildAnswer.TheVariants.{Written, Refused}
 
 -- the key of a record of the view
 abbrev pub item_key : Item → ℕ
@@ -63,17 +60,17 @@ unfoldable pub size_fits : ℕ → ℕ → Bool
 size_fits h d = leb h d && leb d 128
 
 -- the answer where the tray has been checked, for an output of some room
-unfoldable pub after_check : ℕ → List (List Record) → ℕ → TrayAnswer → BuildAnswer
-after_check d t room (TrayRefused r) = Refused r
-after_check d t room (Records n) = cond (leb (index_size d t) room) (Written (index_size d t)) (Refused (Room (index_size d t)))
+unfoldable pub after_check : ℕ → List (List Record) → ℕ → Result ℕ Refusal → Result ℕ Refusal
+after_check d t room (Err r) = Err r
+after_check d t room (Ok n) = cond (leb (index_size d t) room) (Ok (index_size d t)) (Err (Room (index_size d t)))
 
 -- build's answer
-unfoldable pub build_answer : List ℕ → ℕ → ℕ → BuildAnswer
+unfoldable pub build_answer : List ℕ → ℕ → ℕ → Result ℕ Refusal
 build_answer t d room =
     let checked = after_check d (runs_of t) room (check_tray_answer t) in
-    cond (framed t) (cond (size_fits (run_count t) d) checked (Refused (SegmentSize d))) (Refused TrayFrame)
+    cond (framed t) (cond (size_fits (run_count t) d) checked (Err (SegmentSize d))) (Err TrayFrame)
 
 -- what build leaves in the output: the index at its front where it was written, and else what was there
-unfoldable pub build_leaves : List ℕ → ℕ → List ℕ → BuildAnswer → List ℕ
-build_leaves t d out (Written n) = put out 0 (index_bytes d (runs_of t))
-build_leaves t d out (Refused r) = out
+unfoldable pub build_leaves : List ℕ → ℕ → List ℕ → Result ℕ Refusal → List ℕ
+build_leaves t d out (Ok n) = put out 0 (index_bytes d (runs_of t))
+build_leaves t d out (Err r) = out

@@ -2,52 +2,43 @@
 #![tactic(auto)]
 
 ghost use Rattle.std.specs.Prelude.{◌≡◌, ◌≤◌, ◌++◌, length, take};
-ghost use Rattle.drawer_spec.specs.Line.Front.{Front};
-ghost use Rattle.drawer_spec.specs.Feed.Code.{gather_size, first, LineEnd};
+ghost use Rattle.std.specs.List.{position};
+ghost use Rattle.drawer_spec.specs.Filled.{filled};
+ghost use Rattle.drawer_spec.specs.Turns.{Roomy};
+ghost use Rattle.drawer_spec.specs.Feed.{begun};
+ghost use Rattle.drawer_spec.specs.Feed.Code.{gather_size, line_feed, Stands};
 
-use drawer_spec::{Carried, Kept};
-use number::copy;
+use drawer_spec::{Carried, Drawer, Filled};
 
 // What is carried before the first byte of an input.
 pub fn begin_input() -> Carried
-    ensures { result ≡ first }
+    ensures start { Stands result begun }
+    ensures room { Roomy result.drawer }
 {
     Carried {
-        kept: Kept { tray: 0, index: 0 },
-        number: 1,
-        gathered: 0,
-        filled: 0,
+        drawer: Drawer {
+            tray: Filled::new(),
+            index: Filled::new(),
+            room: [0; 32768],
+            output: Filled::new(),
+            number: 1,
+        },
+        line: Filled::new(),
+        frame: [0; 16385],
     }
 }
 
-// Where the line ends that goes on at a place: at its line feed, or where the piece ends.
-pub fn line_end(piece: &[u8], from: usize) -> usize
-    requires { from ≤ length piece.now }
-    ensures { LineEnd piece.now from result }
+// Where a line ends: at its line feed, or not in the piece.
+pub fn line_end(piece: &[u8]) -> Option<usize>
+    ensures { result ≡ position line_feed piece.now }
 {
-    let n = piece.len();
-    let mut i = from;
-    while i < n {
-        if piece[i] == 10 {
-            return i;
-        }
-        i += 1;
-    }
-    i
+    piece.iter().position(|c| *c == b'\n')
 }
 
 // Characters put after those that are gathered. From the first one on that makes the line over-long they are dropped.
-pub fn gather_line(part: &[u8], line: &mut [u8], gathered: usize) -> usize
-    requires { (length line.old ≡ gather_size) × (gathered ≤ gather_size) }
-    ensures { Front result gather_size line.new (take gather_size (take gathered line.old ++ part.now)) }
+pub fn gather_line(part: &[u8], line: &mut Filled<32771>)
+    ensures { filled line.new ≡ take gather_size (filled line.old ++ part.now) }
 {
-    let left = 32771 - gathered;
-    let n = part.len();
-    if n <= left {
-        let end = gathered + n;
-        copy(part, line, gathered);
-        return end;
-    }
-    copy(&part[..left], line, gathered);
-    32771
+    let left = part.len().min(32771 - line.used);
+    line.push_slice(&part[..left]);
 }

@@ -1,59 +1,53 @@
-// Answer lines: the head of 6 bytes, what comes with it, as digits, and a line feed.
-ghost use Rattle.std.specs.Prelude.{◌≡◌, ◌∷◌, ◌++◌, ◌+◌, ◌*◌, ◌≤◌, length};
-ghost use Rattle.number.specs.Big.{bytes_of, put};
-ghost use Rattle.refusal.specs.Table.{verdict_of};
+// Answer lines, put behind what the output holds: the head of 6 bytes, what comes with it, as digits, and a line feed.
+ghost use Rattle.std.specs.Prelude.{◌≡◌, [], ◌∷◌, ◌++◌, ◌+◌, ◌*◌, ◌≤◌, ◌<◌, length};
+ghost use Rattle.number.specs.Big.{bytes_of};
 ghost use Rattle.hexadecimal.specs.Hex.{hex_of};
-ghost use Rattle.drawer_spec.specs.Line.{answer_line};
-ghost use Rattle.drawer_spec.specs.Line.Front.{line_size, Front};
+ghost use Rattle.drawer_spec.specs.Filled.{filled};
+ghost use Rattle.drawer_spec.specs.Line.{room_size, answer, refusal, answer_line};
+ghost use Rattle.drawer_spec.specs.Turns.{output_size, last_room};
 
+use drawer_spec::Output;
 use hexadecimal::encode;
-use refusal::{Refusal, verdict_of};
+use number::BigEndian;
+use refusal::{Refusal, Verdict};
 
-// The head: kind plus 0x80, refusal and figure, 12 digits. A figure has its 4 lowest bytes there.
-fn put_answer_head(code: u8, number: u8, figure: u64, out: &mut [u8])
-    requires { 12 ≤ length out.old }
-    ensures { out.new ≡ put out.old 0 (hex_of (code ∷ number ∷ bytes_of 4 figure)) }
+// Bytes as digits.
+fn put_digits(bytes: &[u8], out: &mut Output)
+    requires { out.old.used + 2 * length bytes.now ≤ output_size }
+    ensures { filled out.new ≡ filled out.old ++ hex_of bytes.now }
 {
-    let f = (figure % 0x100000000) as u32;
-    let head = [
-        code,
-        number,
-        (f / 0x1000000) as u8,
-        (f / 0x10000 % 256) as u8,
-        (f / 0x100 % 256) as u8,
-        (f % 256) as u8,
-    ];
-    encode(&head, out, 0);
+    encode(bytes, &mut out.bytes, out.used);
+    out.used += 2 * bytes.len();
 }
 
-// An answer that is its head: the length of its line.
-pub fn put_short(code: u8, number: u8, figure: u64, out: &mut [u8]) -> usize
-    requires { length out.old ≡ line_size }
-    ensures { Front result line_size out.new (answer_line (code ∷ number ∷ bytes_of 4 figure)) }
+// The head: a code, refusal and figure, 12 digits. A figure has its 4 lowest bytes there.
+fn put_answer_head(code: u8, number: u8, figure: u64, out: &mut Output)
+    requires { out.old.used + 12 ≤ output_size }
+    ensures { filled out.new ≡ filled out.old ++ hex_of (code ∷ number ∷ bytes_of 4 figure) }
 {
-    put_answer_head(code, number, figure, out);
-    out[12] = 10;
-    13
+    let mut head = [code, number, 0, 0, 0, 0];
+    ((figure % 0x100000000) as u32).write(&mut head, 2);
+    put_digits(&head, out);
 }
 
-// An answer with more after its head: the length of its line.
-pub fn put_long(code: u8, figure: u64, more: &[u8], out: &mut [u8]) -> usize
-    requires out_len { length out.old ≡ line_size }
-    requires more_bound { 13 + 2 * length more.now ≤ line_size }
-    ensures { Front result line_size out.new (answer_line (code ∷ 0 ∷ (bytes_of 4 figure ++ more.now))) }
+// An answer: its head, whose code is the kind plus 0x80, and what comes with it.
+pub fn say(kind: u8, number: u8, figure: u64, more: &[u8], out: &mut Output)
+    requires kind_bound { kind < 128 }
+    requires room { out.old.used ≤ last_room }
+    requires more_bound { length more.now ≤ room_size }
+    ensures { filled out.new ≡ filled out.old ++ answer_line (answer kind number figure more.now) }
 {
-    put_answer_head(code, 0, figure, out);
-    encode(more, out, 12);
-    let end = 12 + 2 * more.len();
-    out[end] = 10;
-    end + 1
+    put_answer_head(0x80 + kind, number, figure, out);
+    put_digits(more, out);
+    out.push(b'\n');
 }
 
 // A refusal's answer ends with its figure.
-pub fn put_refusal(code: u8, r: Refusal, out: &mut [u8]) -> usize
-    requires { length out.old ≡ line_size }
-    ensures { Front result line_size out.new (answer_line (code ∷ (verdict_of r).number ∷ bytes_of 4 (verdict_of r).figure)) }
+pub fn refuse(kind: u8, r: Refusal, out: &mut Output)
+    requires kind_bound { kind < 128 }
+    requires room { out.old.used ≤ last_room }
+    ensures { filled out.new ≡ filled out.old ++ answer_line (refusal kind r) }
 {
-    let v = verdict_of(r);
-    put_short(code, v.number, v.figure, out)
+    let v = Verdict::from(r);
+    say(kind, v.number, v.figure, &[], out);
 }

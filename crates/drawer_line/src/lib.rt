@@ -2,139 +2,62 @@
 // without a line feed; what it does and says is `turn`, for every line.
 #![tactic(auto)]
 
-ghost use Rattle.std.specs.Prelude.{◌≡◌, ◌≤◌, length, take};
-ghost use Rattle.drawer_spec.specs.Line.{room_size, bad_answer, formed as formed_line, turn, answer_line};
-ghost use Rattle.drawer_spec.specs.Line.Front.{line_size, Front};
-ghost use Rattle.drawer_spec.specs.Turns.{Buffers, Answered, read_says, heard};
+ghost use Rattle.std.specs.Prelude.{◌≡◌, ◌≤◌, length};
+ghost use Rattle.drawer_spec.specs.Line.{bad_answer, formed as formed_line};
+ghost use Rattle.drawer_spec.specs.Turns.{Roomy, Turned, saying, heard_in, turn_in};
 
-use drawer_frame::says::put_short;
+use drawer_frame::says::say;
 use drawer_frame::{keep_index, keep_tray, list, look_up};
-use drawer_spec::{Kept, Told};
+use drawer_spec::Drawer;
 use hexadecimal::{all_digits, decode};
-use number::u64_of_u32;
 
 // A line is 1 to 32,770 digits, an even number of them.
+#[tactic(auto, using(std::proofs::lemmas::Bool::Decides::nat_tests), unfolding(drawer_spec::specs::Line::formed))]
 fn formed(line: &[u8]) -> bool
     ensures { result ≡ formed_line line.now }
 {
     let n = line.len();
-    if n == 0 {
-        return false;
-    }
-    if n % 2 == 0 {
-        if n <= 32770 {
-            return all_digits(line);
-        }
-        return false;
-    }
-    false
+    1 <= n && n % 2 == 0 && n <= 32770 && all_digits(line)
 }
 
-// A bad line's answer: ff0d and the line's number.
-fn put_bad(number: u32, out: &mut [u8]) -> usize
-    requires { length out.old ≡ line_size }
-    ensures { Front result line_size out.new (answer_line (bad_answer number)) }
+// A bad line changes nothing. Its answer has kind 127, so that it begins with ff, and the line's number.
+fn put_bad(drawer: &mut Drawer)
+    requires { Roomy drawer.old }
+    ensures { Turned (saying drawer.old (bad_answer drawer.old.number)) drawer.old drawer.new }
 {
-    put_short(0xff, 13, u64_of_u32(number), out)
+    say(127, 13, u64::from(drawer.number), &[], &mut drawer.output);
 }
 
-// The answer line of a frame that changes nothing: 03, 04, or one that is not known.
-fn answer_read(
-    frame: &[u8],
-    number: u32,
-    t: &[u8],
-    x: &[u8],
-    room: &mut [u8],
-    out: &mut [u8],
-) -> usize
-    requires { (1 ≤ length frame.now) × (length room.old ≡ room_size) × (length out.old ≡ line_size) }
-    ensures { Front result line_size out.new (answer_line (read_says t.now x.now number frame.now)) }
+// A frame by its kind. One of unknown kind, or of wrong length for 02 or 03, is as bad as a line that spells none. Slice patterns are no plainer here:
+// they test each length anew, and a proof has to go through all of these tests.
+fn answer_frame(frame: &[u8], drawer: &mut Drawer)
+    requires room { Roomy drawer.old }
+    requires frame_nonzero { 1 ≤ length frame.now }
+    requires frame_bound { length frame.now ≤ 16385 }
+    ensures { Turned (heard_in drawer.old frame.now) drawer.old drawer.new }
 {
-    let kind = frame[0];
-    if kind == 3 {
-        if frame.len() == 9 {
-            return look_up(t, x, &frame[1..], out);
-        }
-        return put_bad(number, out);
-    }
-    if kind == 4 {
-        return list(t, x, &frame[1..], room, out);
-    }
-    put_bad(number, out)
-}
-
-// A frame by its kind. One of unknown kind, or of wrong length for 02 or 03, is as bad as a line that spells none.
-fn answer_frame(
-    frame: &[u8],
-    number: u32,
-    kept: Kept,
-    tray: &mut [u8],
-    index: &mut [u8],
-    room: &mut [u8],
-    out: &mut [u8],
-) -> Told
-    requires buffers { Buffers kept tray.old index.old room.old out.old }
-    requires in_bounds { (1 ≤ length frame.now) × (length frame.now ≤ 16385) }
-    ensures { Answered (heard (take kept.tray tray.old) (take kept.index index.old) number frame.now) result tray.new index.new out.new }
-{
-    let kind = frame[0];
-    let t = kept.tray;
-    let x = kept.index;
-    if kind == 1 {
-        let held = keep_tray(&frame[1..], tray, out);
-        return Told {
-            kept: Kept {
-                tray: held.kept,
-                index: 0,
-            },
-            length: held.length,
-        };
-    }
-    if kind == 2 {
-        if frame.len() == 2 {
-            let held = keep_index(&tray[..t], frame[1], index, out);
-            return Told {
-                kept: Kept {
-                    tray: t,
-                    index: held.kept,
-                },
-                length: held.length,
-            };
-        }
-        return Told {
-            kept,
-            length: put_bad(number, out),
-        };
-    }
-    Told {
-        kept,
-        length: answer_read(frame, number, &tray[..t], &index[..x], room, out),
+    let rest = &frame[1..];
+    match frame[0] {
+        1 => keep_tray(rest, drawer),
+        2 if rest.len() == 1 => keep_index(rest[0], drawer),
+        3 => match <&[u8; 8]>::try_from(rest) {
+            Ok(key) => look_up(key, drawer),
+            Err(_) => put_bad(drawer),
+        },
+        4 => list(rest, drawer),
+        _ => put_bad(drawer),
     }
 }
 
-// What a line does and says. The tray and the index stand at the front of their buffers before and after, the answer line at the front of `out`;
-// `frame` and `room` are for the work alone.
-pub fn answer_line(
-    line: &[u8],
-    number: u32,
-    kept: Kept,
-    tray: &mut [u8],
-    index: &mut [u8],
-    frame: &mut [u8],
-    room: &mut [u8],
-    out: &mut [u8],
-) -> Told
-    requires buffers { Buffers kept tray.old index.old room.old out.old }
-    requires frame_len { length frame.old ≡ 16385 }
-    ensures { Answered (turn (take kept.tray tray.old) (take kept.index index.old) number line.now) result tray.new index.new out.new }
+// What a line does and says. `frame` is for the work alone.
+pub fn answer_line(line: &[u8], frame: &mut [u8; 16385], drawer: &mut Drawer)
+    requires { Roomy drawer.old }
+    ensures { Turned (turn_in drawer.old line.now) drawer.old drawer.new }
 {
     if formed(line) {
-        let n = line.len() / 2;
         decode(line, frame);
-        return answer_frame(&frame[..n], number, kept, tray, index, room, out);
-    }
-    Told {
-        kept,
-        length: put_bad(number, out),
+        answer_frame(&frame[..line.len() / 2], drawer);
+    } else {
+        put_bad(drawer);
     }
 }

@@ -2,82 +2,47 @@
 // of what was said; that what left the output was written no contract can say.
 #![tactic(auto)]
 
-ghost use Rattle.std.specs.Prelude.{◌≡◌, true, ◌≤◌, length};
-ghost use Rattle.drawer_serve.specs.Ready.{Ready, Room};
-ghost use Rattle.drawer_serve.specs.Serves.{Serves};
+ghost use Rattle.std.specs.Prelude.{◌≡◌, true, []};
+ghost use Rattle.drawer_spec.specs.Filled.{filled};
+ghost use Rattle.drawer_spec.specs.Turns.{Roomy};
+ghost use Rattle.drawer_serve.specs.Serves.{Room, Serves};
 
 use drawer_read::take_lines;
-use drawer_spec::Carried;
+use drawer_spec::{Carried, Drawer, Output};
 
 // The standard output.
 pub const STDOUT: i32 = 1;
 
-// What is carried, and whether there is more to do.
-#[derive(Clone, Copy)]
-pub struct Served {
-    pub carried: Carried,
-    pub open: bool,
+// Writes what the output holds, all of it: whether that went well.
+pub fn write_out(output: &mut Output) -> bool
+    ensures { filled output.new ≡ [] }
+{
+    let fine = io::write_all(STDOUT, output.as_slice());
+    output.clear();
+    fine
 }
 
-// Writes the output where it has no room for one more answer line: all of it, and nothing else that is carried changes.
-fn make_room(carried: Carried, output: &[u8]) -> Served
-    requires { carried.filled ≤ length output.now }
-    ensures { Room carried result.carried }
+// Writes the output where it has no room for one more answer line, and nothing else in the drawer changes: whether there is more to do.
+fn make_room(drawer: &mut Drawer) -> bool
+    ensures { Room drawer.old drawer.new }
 {
-    let k = carried.filled;
-    if k <= 196595 {
-        return Served {
-            carried,
-            open: true,
-        };
-    }
-    let open = io::write_all(STDOUT, &output[..k]);
-    let kept = carried.kept;
-    Served {
-        carried: Carried {
-            kept,
-            number: carried.number,
-            gathered: carried.gathered,
-            filled: 0,
-        },
-        open,
-    }
+    drawer.has_room() || write_out(&mut drawer.output)
 }
 
-// A piece of the input, whole: each byte once, in order. A write that fails ends the program.
-pub fn serve(
-    piece: &[u8],
-    carried: Carried,
-    line: &mut [u8],
-    tray: &mut [u8],
-    index: &mut [u8],
-    frame: &mut [u8],
-    room: &mut [u8],
-    output: &mut [u8],
-) -> Served
-    requires { Ready carried line.old tray.old index.old frame.old room.old output.old }
-    ensures ready { Ready result.carried line.new tray.new index.new frame.new room.new output.new }
-    ensures serves { (result.open ≡ true) → Serves piece.now carried line.old tray.old index.old output.old result.carried line.new tray.new index.new output.new }
+// A piece of the input, whole: each byte once, in order. False where a write fails, which ends the program.
+pub fn serve(piece: &[u8], carried: &mut Carried) -> bool
+    requires { Roomy carried.old.drawer }
+    ensures room { Roomy carried.new.drawer }
+    ensures serves { result ≡ true → Serves piece.now carried.old carried.new }
 {
-    let n = piece.len();
-    let mut state = carried;
-    let mut at: usize = 0;
-    while at < n {
-        let taken = take_lines(piece, at, state, line, tray, index, frame, room, output);
-        at = taken.at;
-        let made = make_room(taken.carried, output);
-        let next = made.carried;
-        if made.open {
-            state = next;
-            continue;
+    let mut at = 0;
+    // Not a range: a turn moves on by what it took.
+    while at < piece.len() {
+        let taken = take_lines(&piece[at..], carried);
+        at += taken;
+        if !make_room(&mut carried.drawer) {
+            return false;
         }
-        return Served {
-            carried: next,
-            open: false,
-        };
     }
-    Served {
-        carried: state,
-        open: true,
-    }
+    true
 }

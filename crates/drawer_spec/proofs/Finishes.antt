@@ -7,8 +7,9 @@ use Rattle.std.proofs.Common.{◌∙◌, take-take}
 use native.Mathlib.Omega.{arith}
 use mathlib.Core.List.{List, [], ◌∷◌}
 use Rattle.std.proofs.Math.ListN.{length}
-use Rattle.drawer_spec.specs.Line.Code.{front_length}
+use Rattle.drawer_spec.specs.declared.Drawer.{Drawer}
 use Rattle.drawer_spec.specs.declared.Carried.{Carried}
+use Rattle.drawer_spec.specs.Filled.{filled, length-filled}
 use Rattle.drawer_spec.specs.Feed.{Progress, ended, finished}
 use Rattle.drawer_spec.specs.Feed.Code.{gather_size, none-gathered, Answers, Finishes}
 
@@ -24,19 +25,13 @@ finished-some p h = go p.line refl
     go [] e = absurd (h e)
     go (c ∷ cs) e = rw e
 
-module _ {carried : Carried} (line : List ℕ) {tray index output : List ℕ} where
-  pub finishes-none : carried.gathered ≡ 0 → Finishes carried line tray index output carried tray index output
-  finishes-none e =
-      record { closed = λ p s. rw (finished-none p (none-gathered p e s.gathers)) s.keeps }
+module _ (c : Carried) where
+  pub finishes-none : c.line.used ≡ 0 → Finishes c c.drawer
+  finishes-none e p s = rw (finished-none p (none-gathered c p e s.gathers)) s.keeps
 
-  pub finishes-line : {after : Carried} {tray₁ index₁ output₁ : List ℕ} → (carried.gathered ≡ 0 → ⊥)
-      → Answers (take carried.gathered line) carried tray index output after tray₁ index₁ output₁
-      → Finishes carried line tray index output after tray₁ index₁ output₁
-  finishes-line some a =
-      record {
-        closed = λ p s.
-            let there : p.line ≡ [] → ⊥ = λ e. some (front_length s.gathers ∙ ap length (s.gathers.is ∙ ap (take gather_size) e)) in
-            let cut : take gather_size p.line ≡ take gather_size (take carried.gathered line) =
-            sym (ap (take gather_size) s.gathers.is ∙ take-take gather_size gather_size p.line (omega arith)) in
-            rw (finished-some p there) (a.turned p s.keeps cut);
-      }
+  pub finishes-line : {line : List ℕ} {after : Drawer} → (c.line.used ≡ 0 → ⊥) → line ≡ filled c.line → Answers line c.drawer after → Finishes c after
+  finishes-line {line} some is a p s =
+      let there : p.line ≡ [] → ⊥ = λ e. some (sym (length-filled c.line) ∙ ap length (s.gathers ∙ ap (take gather_size) e)) in
+      let cut : take gather_size p.line ≡ take gather_size line =
+      sym (ap (take gather_size) (is ∙ s.gathers) ∙ take-take gather_size gather_size p.line (omega arith)) in
+      rw (finished-some p there) (a p s.keeps cut)

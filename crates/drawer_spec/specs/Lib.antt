@@ -1,7 +1,9 @@
 -- The program `drawer` (docs/DRAWER.md, "The program `drawer`"): its lines, and its input.
+-- what a buffer is filled with
+pub mod Filled
 -- what a line does and says
 pub mod Line
--- a turn in its buffers
+-- a turn in the drawer
 pub mod Turns
 -- what follows of every line
 pub mod Theorems

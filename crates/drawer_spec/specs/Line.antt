@@ -1,31 +1,30 @@
 -- What a line does to the kept tray and index, and what its answer line says (docs/DRAWER.md, "The program `drawer`"), for every line of any bytes.
 -- A tray or index that is not there is empty.
-pub mod Front
 pub mod Code
-use Rattle.std.specs.Prelude.{ℕ, ◌+◌, ◌%◌, Bool, true, cond, ◌&&◌, List, [], ◌∷◌, ◌++◌, length, get_or, drop, eqb, leb}
+use Rattle.std.specs.Prelude.{ℕ, ◌+◌, ◌%◌, Bool, true, cond, ◌&&◌, List, [], ◌∷◌, ◌++◌, length, get_or, drop, eqb, leb, Ok, Err, Result, Some, None}
 use Rattle.number.specs.Big.{bytes_of}
 use Rattle.refusal.specs.declared.Refusal.{Refusal}
 use Rattle.refusal.specs.Table.{verdict_of}
-use Rattle.tray.specs.declared.TrayAnswer.{TrayAnswer}
-use Rattle.tray.specs.declared.TrayAnswer.TheVariants.{Records, Refused as TrayRefused}
 use Rattle.tray.specs.Check.{check_tray_answer}
 use Rattle.tray.specs.Meaning.{runs_of}
-use Rattle.build_spec.specs.declared.BuildAnswer.{BuildAnswer}
-use Rattle.build_spec.specs.declared.BuildAnswer.TheVariants.{Written, Refused as BuildRefused}
 use Rattle.build_spec.specs.Build.{build_answer, index_bytes}
-use Rattle.answers.specs.declared.GetAnswer.{GetAnswer}
-use Rattle.answers.specs.declared.GetAnswer.TheVariants.{Found, Absent, Refused as GetRefused}
-use Rattle.answers.specs.Get.{get_answer}
+use Rattle.answers.specs.Get.{Value, get_answer}
 use Rattle.walk.specs.Reads.{sheet}
 use Rattle.walk.specs.Reads.Page.{listing}
-use Rattle.answers.specs.declared.SheetAnswer.{SheetAnswer}
-use Rattle.answers.specs.declared.SheetAnswer.TheVariants.{Listed, Refused as SheetRefused}
 use Rattle.answers.specs.Sheet.{records_of, sheet_answer}
 use Rattle.hexadecimal.specs.Hex.{all_digits, bytes_in, hex_of}
 
 -- the room of a build and of a sheet
 abbrev pub room_size : ℕ
 room_size = 32768
+
+-- the longest tray that a frame of 16,385 bytes holds
+abbrev pub tray_size : ℕ
+tray_size = 16384
+
+-- the longest answer line: a head of 6 bytes and a full room, two digits a byte, and a line feed
+abbrev pub line_size : ℕ
+line_size = 65549
 
 -- after a line: the kept tray and index, and the bytes that the answer line spells
 pub record Turn : Type 0 where
@@ -46,25 +45,25 @@ unfoldable pub bad_answer : ℕ → List ℕ
 bad_answer n = 255 ∷ 13 ∷ bytes_of 4 n
 
 -- 01: a tray, kept if check tray accepts it, and the index is emptied; else both become empty
-unfoldable pub after_tray : List ℕ → TrayAnswer → Turn
-after_tray t (Records n) = record { tray = t; index = []; says = answer 1 0 n [] }
-after_tray t (TrayRefused r) = record { tray = []; index = []; says = refusal 1 r }
+unfoldable pub after_tray : List ℕ → Result ℕ Refusal → Turn
+after_tray t (Ok n) = record { tray = t; index = []; says = answer 1 0 n [] }
+after_tray t (Err r) = record { tray = []; index = []; says = refusal 1 r }
 
 -- 02: D, build and keep; a refused build leaves the index empty
-unfoldable pub after_build : List ℕ → ℕ → BuildAnswer → Turn
-after_build t d (Written n) = record { tray = t; index = index_bytes d (runs_of t); says = answer 2 0 n (index_bytes d (runs_of t)) }
-after_build t d (BuildRefused r) = record { tray = t; index = []; says = refusal 2 r }
+unfoldable pub after_build : List ℕ → ℕ → Result ℕ Refusal → Turn
+after_build t d (Ok n) = record { tray = t; index = index_bytes d (runs_of t); says = answer 2 0 n (index_bytes d (runs_of t)) }
+after_build t d (Err r) = record { tray = t; index = []; says = refusal 2 r }
 
 -- 03: a key: 1 and its value, or 0
-unfoldable pub after_get : GetAnswer → List ℕ → List ℕ
-after_get Found v = answer 3 0 1 v
-after_get Absent v = answer 3 0 0 []
-after_get (GetRefused r) v = refusal 3 r
+unfoldable pub after_get : Value → List ℕ
+after_get (Ok (Some v)) = answer 3 0 1 v
+after_get (Ok None) = answer 3 0 0 []
+after_get (Err r) = refusal 3 r
 
 -- 04: a prefix: the records listed
-unfoldable pub after_sheet : List ℕ → SheetAnswer → List ℕ
-after_sheet list (Listed n) = answer 4 0 n list
-after_sheet list (SheetRefused r) = refusal 4 r
+unfoldable pub after_sheet : List ℕ → Result ℕ Refusal → List ℕ
+after_sheet list (Ok n) = answer 4 0 n list
+after_sheet list (Err r) = refusal 4 r
 
 -- a line is well formed: not empty, even, at most 32,770 characters, all of them digits
 unfoldable pub formed : List ℕ → Bool
@@ -81,10 +80,9 @@ unfoldable pub frame_turn : List ℕ → List ℕ → List ℕ → Turn
 frame_turn t x frame =
     let kind = get_or frame 0 0 in
     let rest = drop 1 frame in
-    let looked = get_answer t x rest in
     cond (eqb kind 1) (after_tray rest (check_tray_answer rest))
     (cond (eqb kind 2) (after_build t (get_or frame 1 0) (build_answer t (get_or frame 1 0) room_size))
-    (cond (eqb kind 3) (record { tray = t; index = x; says = after_get looked.answer looked.value })
+    (cond (eqb kind 3) (record { tray = t; index = x; says = after_get (get_answer t x rest) })
     (record { tray = t; index = x; says = after_sheet (listing (records_of (sheet t x rest))) (sheet_answer t x rest room_size) })))
 
 -- what line number n does: a bad one changes nothing

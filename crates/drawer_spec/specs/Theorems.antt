@@ -4,9 +4,8 @@
 --     tray-alone, sheet-alone   01 alone is check tray of nothing, 04 alone is sheet with an empty prefix
 --     says-bytes, says-room     what a line says are bytes, at most 6 and a full room
 --     answer-digits, answer-room     so an answer line has digits and one line feed at its end, at most 65,549 of them
-use Rattle.std.specs.Prelude.{◌≡◌, refl, ℕ, zero, suc, ◌+◌, ◌≤◌, ◌<◌, true, false, List, [], ◌∷◌, ◌++◌, length, get_or, take, drop, replicate, eqb, leb}
-use Rattle.std.proofs.Common.{sym, ap, ◌∙◌, arith, length-append, take_all, length-take-le, eqb-true, leb-true, leb-false}
-use Rattle.std.proofs.lemmas.Bool.{eqb-false}
+use Rattle.std.specs.Prelude.{◌≡◌, refl, ℕ, ◌+◌, ◌≤◌, ◌<◌, true, false, List, [], ◌∷◌, ◌++◌, length, get_or, take, drop, eqb, leb, Ok, Err, Result}
+use Rattle.std.proofs.Common.{sym, ap, ◌∙◌, arith, length-append, take_all, length-take-le, leb-true, leb-false}
 use Rattle.number.specs.Big.{bytes_of, Bytes}
 use Rattle.number.proofs.Big.Laws.{length-bytes_of, bytes-bytes_of, bytes-cons, bytes-append}
 use Rattle.refusal.specs.declared.Refusal.{Refusal}
@@ -15,33 +14,23 @@ use Rattle.refusal.specs.Table.{verdict_of}
 use Rattle.theory.specs.Records.{Record}
 use Rattle.theory.specs.Listed.{listed}
 use Rattle.theory.specs.Tests.{split, cases}
-use Rattle.tray.specs.declared.TrayAnswer.{TrayAnswer}
-use Rattle.tray.specs.declared.TrayAnswer.TheVariants.{Records, Refused as TrayRefused}
 use Rattle.tray.specs.Check.{check_tray_answer}
 use Rattle.tray.specs.Meaning.{runs_of}
-use Rattle.build_spec.specs.declared.BuildAnswer.{BuildAnswer}
-use Rattle.build_spec.specs.declared.BuildAnswer.TheVariants.{Written, Refused as BuildRefused}
 use Rattle.build_spec.specs.Build.{build_answer, index_bytes}
 use Rattle.build_spec.proofs.Build.Answers.{build-written}
 use Rattle.build_spec.proofs.Build.Bytes.{length-index_bytes, bytes-index_bytes}
 use Rattle.build_spec.proofs.Build.Theorems.{sound-ready}
-use Rattle.answers.specs.declared.ValueAnswer.{ValueAnswer}
-use Rattle.answers.specs.declared.GetAnswer.{GetAnswer}
-use Rattle.answers.specs.declared.GetAnswer.TheVariants.{Found, Absent, Refused as GetRefused}
-use Rattle.answers.specs.Get.{get_answer, get_framed, got_told, refused_get}
+use Rattle.answers.specs.Get.{get_answer, get_framed, got_told}
 use Rattle.answers.specs.Seek.Hands.{in-frames}
 use Rattle.walk.specs.Reads.{Got, value, absent, get-lost, get, listed_bytes, sheet}
 use Rattle.walk.specs.Reads.Page.{listing}
 use Rattle.walk.proofs.ReadsLaws.Page.{length-listing}
-use Rattle.answers.specs.declared.SheetAnswer.{SheetAnswer}
-use Rattle.answers.specs.declared.SheetAnswer.TheVariants.{Listed, Refused as SheetRefused}
 use Rattle.answers.specs.Sheet.{records_of, sheet_answer}
 use Rattle.hexadecimal.specs.Hex.{is_digit, digit_of, all_digits, bytes_in, hex_of}
 use Rattle.hexadecimal.specs.Hex.Laws.{length-hex_of, all_digits-hex_of}
-use Rattle.drawer_spec.specs.Line.{room_size, Turn, answer, refusal, bad_answer, after_tray, after_build, after_get, after_sheet, formed, known, frame_turn, turn, answer_line}
-use Rattle.drawer_spec.specs.Line.Front.{line_size, get_says, sheet_says}
-use Rattle.drawer_spec.specs.Line.Code.{value-length, sheet-room}
-use Rattle.drawer_spec.specs.Turns.{formed-long, heard, ignored, read_says, turn-heard, turn-ignored, heard-1, heard-2, heard-2-wrong, heard-read}
+use Rattle.drawer_spec.specs.Line.{room_size, line_size, Turn, answer, refusal, bad_answer, after_tray, after_build, after_get, after_sheet, formed, known, frame_turn, turn, answer_line}
+use Rattle.drawer_spec.specs.Line.Code.{sheet-room}
+use Rattle.drawer_spec.specs.Turns.{heard, ignored, formed-known, turn-heard, turn-ignored, heard-known, heard-bad}
 
 -- a line that is not well formed changes nothing, and is told by its number
 pub bad-formed : (t x : List ℕ) (n : ℕ) (line : List ℕ) → formed line ≡ false → turn t x n line ≡ record { tray = t; index = x; says = bad_answer n }
@@ -55,7 +44,7 @@ bad-frame t x n line e = rw e (split (λ (u : Turn). u ≡ record { tray = t; in
 
 -- an over-long line is bad
 pub over-long : (t x : List ℕ) (n : ℕ) (line : List ℕ) → 32770 < length line → turn t x n line ≡ record { tray = t; index = x; says = bad_answer n }
-over-long t x n line l = bad-formed t x n line (sym (formed-long line l))
+over-long t x n line l = cases (formed line) (λ y. absurd (omega (arith, (formed-known line y).short))) (bad-formed t x n line)
 
 -- so what stands from character 32,771 on does not matter
 pub turn-front : (t x : List ℕ) (n : ℕ) (line : List ℕ) → turn t x n line ≡ turn t x n (take 32771 line)
@@ -118,37 +107,30 @@ unfolding bad_answer
 sayable-bad n =
     record { bytes = bytes-cons 255 (13 ∷ bytes_of 4 n) (omega arith) (bytes-cons 13 (bytes_of 4 n) (omega arith) (bytes-bytes_of 4 n)); fits = omega (arith, length-bytes_of 4 n) }
 
-sayable-tray : (t : List ℕ) (a : TrayAnswer) → Sayable (after_tray t a).says
+sayable-tray : (t : List ℕ) (a : Result ℕ Refusal) → Sayable (after_tray t a).says
 unfolding after_tray
-sayable-tray t (Records n) = sayable-answer 1 0 n [] (omega arith) (omega arith) none-bytes (omega arith)
-sayable-tray t (TrayRefused r) = sayable-refusal 1 r (omega arith)
+sayable-tray t (Ok n) = sayable-answer 1 0 n [] (omega arith) (omega arith) none-bytes (omega arith)
+sayable-tray t (Err r) = sayable-refusal 1 r (omega arith)
 
-sayable-build : (t : List ℕ) (d : ℕ) (a : BuildAnswer) → build_answer t d room_size ≡ a → Sayable (after_build t d a).says
+sayable-build : (t : List ℕ) (d : ℕ) (a : Result ℕ Refusal) → build_answer t d room_size ≡ a → Sayable (after_build t d a).says
 unfolding after_build
-sayable-build t d (Written n) e =
+sayable-build t d (Ok n) e =
     let w = (build-written t d room_size n).0 e in
     let ready = sound-ready w.0.sound w.0.size in
     sayable-answer 2 0 n (index_bytes d (runs_of t)) (omega arith) (omega arith) (bytes-index_bytes ready) (omega (arith, length-index_bytes ready, w.0.bytes, w.1))
-sayable-build t d (BuildRefused r) e = sayable-refusal 2 r (omega arith)
+sayable-build t d (Err r) e = sayable-refusal 2 r (omega arith)
 
-zeros : (n : ℕ) → Bytes (replicate n 0)
-zeros zero i = omega arith
-zeros (suc n) i = bytes-cons 0 (replicate n 0) (omega arith) (zeros n) i
-
-value-bytes : (t x key : List ℕ) → Bytes (get_answer t x key).value
-unfolding get_answer get_framed got_told
-value-bytes t x key = in-frames (λ (g : ValueAnswer). Bytes g.value) refused_get t x _ (λ r. zeros 16) (λ f i. told (get t x _))
+sayable-get : (t x key : List ℕ) → Sayable (after_get (get_answer t x key))
+unfolding get_answer get_framed after_get got_told
+sayable-get t x key = in-frames (λ g. Sayable (after_get g)) Err t x _ refused (λ f i. told (get t x _))
   where
-    told : (g : Got) → Bytes (got_told g).value
-    told (value v) = bytes-bytes_of 16 v
-    told absent = zeros 16
-    told (get-lost g s) = zeros 16
+    refused : (r : Refusal) → Sayable (after_get (Err r))
+    refused r = sayable-refusal 3 r (omega arith)
 
-sayable-get : (a : GetAnswer) (v : List ℕ) → Bytes v → length v ≡ 16 → Sayable (after_get a v)
-unfolding after_get
-sayable-get Found v b l = sayable-answer 3 0 1 v (omega arith) (omega arith) b (omega arith)
-sayable-get Absent v b l = sayable-answer 3 0 0 [] (omega arith) (omega arith) none-bytes (omega arith)
-sayable-get (GetRefused r) v b l = sayable-refusal 3 r (omega arith)
+    told : (g : Got) → Sayable (after_get (got_told g))
+    told (value v) = sayable-answer 3 0 1 (bytes_of 16 v) (omega arith) (omega arith) (bytes-bytes_of 16 v) (omega (arith, length-bytes_of 16 v))
+    told absent = sayable-answer 3 0 0 [] (omega arith) (omega arith) none-bytes (omega arith)
+    told (get-lost g s) = sayable-refusal 3 _ (omega arith)
 
 listing-bytes : (es : List Record) → Bytes (listing es)
 unfolding listing listed_bytes
@@ -157,35 +139,30 @@ listing-bytes (e ∷ es) =
     bytes-append (listed_bytes e) (listing es) (bytes-append (bytes_of 8 e.key) (bytes_of 16 e.value) (bytes-bytes_of 8 e.key) (bytes-bytes_of 16 e.value))
     (listing-bytes es)
 
-sayable-sheet : (t x prefix : List ℕ) (a : SheetAnswer) → sheet_answer t x prefix room_size ≡ a
+sayable-sheet : (t x prefix : List ℕ) (a : Result ℕ Refusal) → sheet_answer t x prefix room_size ≡ a
     → Sayable (after_sheet (listing (records_of (sheet t x prefix))) a)
 unfolding after_sheet
-sayable-sheet t x prefix (Listed n) e =
+sayable-sheet t x prefix (Ok n) e =
     let fits = sheet-room t x prefix room_size n e in
     let es = records_of (sheet t x prefix) in
     sayable-answer 4 0 n (listing es) (omega arith) (omega arith) (listing-bytes es) (omega (arith, length-listing es, fits.0, fits.1))
-sayable-sheet t x prefix (SheetRefused r) e = sayable-refusal 4 r (omega arith)
+sayable-sheet t x prefix (Err r) e = sayable-refusal 4 r (omega arith)
 
--- what a frame that changes nothing says
-sayable-read : (t x : List ℕ) (n : ℕ) (frame : List ℕ) → Sayable (read_says t x n frame)
-unfolding read_says get_says sheet_says
-sayable-read t x n frame =
-    let got = get_answer t x (drop 1 frame) in
-    split Sayable (eqb (get_or frame 0 0) 3)
-    (λ y. split Sayable (eqb (length frame) 9) (λ z. sayable-get got.answer got.value (value-bytes t x (drop 1 frame)) (value-length t x (drop 1 frame))) (λ z. sayable-bad n))
-    (λ y. split Sayable (eqb (get_or frame 0 0) 4) (λ z. sayable-sheet t x (drop 1 frame) _ refl) (λ z. sayable-bad n))
+-- what a known frame says
+sayable-frame : (t x frame : List ℕ) → Sayable (frame_turn t x frame).says
+unfolding frame_turn
+sayable-frame t x frame =
+    let kind = get_or frame 0 0 in
+    let rest = drop 1 frame in
+    split (λ (u : Turn). Sayable u.says) (eqb kind 1) (λ y. sayable-tray rest (check_tray_answer rest))
+    (λ y. split (λ (u : Turn). Sayable u.says) (eqb kind 2) (λ z. sayable-build t (get_or frame 1 0) _ refl)
+    (λ z. split (λ (u : Turn). Sayable u.says) (eqb kind 3) (λ w. sayable-get t x rest) (λ w. sayable-sheet t x rest _ refl)))
 
 -- what any frame says
 sayable-heard : (t x : List ℕ) (n : ℕ) (frame : List ℕ) → Sayable (heard t x n frame).says
 unfolding ignored
 sayable-heard t x n frame =
-    let kind = get_or frame 0 0 in
-    let rest = drop 1 frame in
-    cases (eqb kind 1) (λ y. rw (heard-1 t x n frame (eqb-true kind 1 y)) (sayable-tray rest (check_tray_answer rest)))
-    (λ a. cases (eqb kind 2)
-    (λ y. cases (eqb (length frame) 2) (λ z. rw (heard-2 t x n frame (eqb-true kind 2 y) (eqb-true (length frame) 2 z)) (sayable-build t (get_or frame 1 0) _ refl))
-    (λ z. rw (heard-2-wrong t x n frame (eqb-true kind 2 y) (eqb-false (length frame) 2 z)) (sayable-bad n)))
-    (λ b. rw (heard-read t x n frame (eqb-false kind 1 a) (eqb-false kind 2 b)) (sayable-read t x n frame)))
+    cases (known frame) (λ y. rw (heard-known t x n frame y) (sayable-frame t x frame)) (λ y. rw (heard-bad t x n frame y) (sayable-bad n))
 
 -- what any line says are bytes, at most a head and a full room
 pub turn-sayable : (t x : List ℕ) (n : ℕ) (line : List ℕ) → Sayable (turn t x n line).says

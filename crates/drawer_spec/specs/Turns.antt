@@ -1,47 +1,59 @@
 -- What the code promises of a line, and what its ways out need.
---     Buffers, Answered      the buffers before a line, and what stands in them after it
---     heard, turn-heard, turn-bad          what a frame does, known or not; a line is heard where it is well formed
---     formed-.., heard-..                  each way out of `formed` and each kind
---     read_says, read-..                    each way out of `answer_read`
---     answered-..                          each way out of `answer_frame`, and of `answer_line`
-use Rattle.std.specs.Prelude.{◌≡◌, ℕ, ◌+◌, ◌-◌, ◌/◌, ◌%◌, ◌≤◌, ◌<◌, Bool, cond, ◌&&◌, List, [], length, take, drop, eqb, leb}
-use Rattle.std.proofs.Math.Path.{refl}
-use Rattle.std.proofs.Common.{sym, ap, ◌∙◌, subst, arith, zero-add, length-drop, take_all}
+--     Roomy, Turned          one more answer line has room; a turn has been taken
+--     heard, turn-heard, turn-ignored     what a frame does, known or not; a line is heard where it is well formed
+--     formed-known           what a well formed line has
+--     heard-.., wrong-..     what a frame of each kind does
+--     tray-kept .. said-only, looked, listed     each way out of a kind of frame
+--     turned-.., bad-.., line-..     each way out of `answer_frame`, and of `answer_line`
+use Rattle.refusal.specs.declared.Refusal.{Refusal}
+use Rattle.std.specs.Prelude.{◌≡◌, ℕ, ◌+◌, ◌-◌, ◌*◌, ◌/◌, ◌%◌, ◌≤◌, cond, List, [], ◌++◌, length, take, drop, eqb, leb, Ok, Err, Result}
+use Rattle.std.proofs.Common.{sym, ap, ap₂, ◌∙◌, subst, arith, zero-add, length-drop, take_all}
+use Rattle.std.proofs.Math.Seq.{get_or-drop}
+use Rattle.number.specs.Big.{put}
+use Rattle.number.proofs.Big.Writes.{take_put}
+use Rattle.hexadecimal.specs.Hex.Laws.{length-bytes_in}
 use Rattle.std.proofs.Math.Bool.{true, false}
 use Rattle.std.proofs.Math.ListN.{get_or}
-use borrow.Author.Tests.{eq-eqb, ne_eqb, le-leb, lt-leb, leb-true, eqb-true}
-use Rattle.number.specs.Big.{put}
-use Rattle.number.proofs.Big.Writes.{length-put, take_put}
-use Rattle.theory.specs.Tests.{cases, and_left, and_right}
-use Rattle.tray.specs.declared.TrayAnswer.{TrayAnswer}
-use Rattle.tray.specs.declared.TrayAnswer.TheVariants.{Records, Refused as TrayRefused}
+use borrow.Author.Tests.{ne_eqb, leb-true, eqb-true}
+use Rattle.theory.specs.Tests.{and_left, and_right}
 use Rattle.tray.specs.Check.{check_tray_answer}
-use Rattle.build_spec.specs.declared.BuildAnswer.{BuildAnswer}
-use Rattle.build_spec.specs.declared.BuildAnswer.TheVariants.{Written, Refused as BuildRefused}
-use Rattle.build_spec.specs.Build.{build_answer}
-use Rattle.drawer_spec.specs.declared.Kept.{Kept}
-use Rattle.drawer_spec.specs.declared.Told.{Told}
-use Rattle.drawer_spec.specs.declared.Held.{Held}
+use Rattle.tray.specs.Meaning.{runs_of}
+use Rattle.build_spec.specs.Build.{build_answer, index_bytes, build_leaves}
+use Rattle.answers.specs.Get.{Value, get_answer}
+use Rattle.answers.specs.Sheet.{records_of, sheet_answer, sheet_leaves}
+use Rattle.walk.specs.Reads.{sheet}
+use Rattle.walk.specs.Reads.Page.{listing}
+use Rattle.drawer_spec.specs.declared.Drawer.{Drawer}
 use Rattle.hexadecimal.specs.Hex.{all_digits, bytes_in}
-use Rattle.hexadecimal.specs.Hex.Laws.{length-bytes_in}
-use Rattle.drawer_spec.specs.Line.{room_size, Turn, bad_answer, after_tray, after_build, formed, known, frame_turn, turn, answer_line}
-use Rattle.drawer_spec.specs.Line.Front.{tray_size, line_size, Front, Holds, get_says, sheet_says}
-use Rattle.drawer_spec.specs.Line.Code.{front-none}
+use Rattle.drawer_spec.specs.Filled.{filled}
+use Rattle.drawer_spec.specs.Line.{room_size, Turn, answer, refusal, bad_answer, after_tray, after_build, after_get, after_sheet, formed, known, frame_turn, turn, answer_line}
+use Rattle.drawer_spec.specs.Line.Code.{index-front, sheet-front}
 
--- the buffers, and what is kept at the front of two of them
-pub record Buffers (kept : Kept) (tray index room out : List ℕ) : Type 0 where
-  pub tray-room : length tray ≡ tray_size
-  pub index-room : length index ≡ room_size
-  pub listing-room : length room ≡ room_size
-  pub line-room : length out ≡ line_size
-  pub tray-fits : kept.tray ≤ tray_size
-  pub index-fits : kept.index ≤ room_size
+-- the output that is filled before it is written, and how far, so that one more answer line has room
+abbrev pub output_size : ℕ
+output_size = 262144
 
--- after a line: the tray and the index are those of the turn, and the output begins with its answer line
-pub record Answered (after : Turn) (told : Told) (tray index out : List ℕ) : Type 0 where
-  pub keeps-tray : Front told.kept.tray tray_size tray after.tray
-  pub keeps-index : Front told.kept.index room_size index after.index
-  pub says : Front told.length line_size out (answer_line after.says)
+abbrev pub last_room : ℕ
+last_room = 196595
+
+-- one more answer line has room; no invariant of a drawer, since after an answer it need not hold
+abbrev pub Roomy : Drawer → Type 0
+Roomy d = d.output.used ≤ last_room
+
+-- a turn has been taken: its tray and index are kept, and its answer line stands behind what was said
+pub record Turned (u : Turn) (before after : Drawer) : Type 0 where
+  pub tray : filled after.tray ≡ u.tray
+  pub index : filled after.index ≡ u.index
+  pub number : after.number ≡ before.number
+  pub said : filled after.output ≡ filled before.output ++ answer_line u.says
+
+-- nothing kept is changed
+abbrev pub saying : Drawer → List ℕ → Turn
+saying d says = record { tray = filled d.tray; index = filled d.index; says = says }
+
+-- what 04 says
+abbrev pub listed_says : List ℕ → List ℕ → List ℕ → List ℕ
+listed_says t x prefix = after_sheet (listing (records_of (sheet t x prefix))) (sheet_answer t x prefix room_size)
 
 -- a line that changes nothing
 unfoldable pub ignored : List ℕ → List ℕ → ℕ → Turn
@@ -51,12 +63,12 @@ ignored t x n = record { tray = t; index = x; says = bad_answer n }
 unfoldable pub heard : List ℕ → List ℕ → ℕ → List ℕ → Turn
 heard t x n frame = cond (known frame) (frame_turn t x frame) (ignored t x n)
 
--- what a frame says that changes nothing
-unfoldable pub read_says : List ℕ → List ℕ → ℕ → List ℕ → List ℕ
-read_says t x n frame =
-    let kind = get_or frame 0 0 in
-    let rest = drop 1 frame in
-    cond (eqb kind 3) (cond (eqb (length frame) 9) (get_says t x rest) (bad_answer n)) (cond (eqb kind 4) (sheet_says t x rest) (bad_answer n))
+-- what a frame and a line do in a drawer
+abbrev pub heard_in : Drawer → List ℕ → Turn
+heard_in d frame = heard (filled d.tray) (filled d.index) d.number frame
+
+abbrev pub turn_in : Drawer → List ℕ → Turn
+turn_in d line = turn (filled d.tray) (filled d.index) d.number line
 
 -- a line that is well formed is heard, and any other is ignored
 pub turn-heard : (t x : List ℕ) (n : ℕ) (line : List ℕ) → formed line ≡ true → turn t x n line ≡ heard t x n (bytes_in line)
@@ -66,32 +78,6 @@ turn-heard t x n line e = rw e
 pub turn-ignored : (t x : List ℕ) (n : ℕ) (line : List ℕ) → formed line ≡ false → turn t x n line ≡ ignored t x n
 unfolding turn ignored
 turn-ignored t x n line e = rw e
-
--- when a line is well formed, as the code asks
-module _ (line : List ℕ) where
-  pub formed-empty : length line ≡ 0 → false ≡ formed line
-  unfolding formed
-  formed-empty e = rw e
-
-  pub formed-odd : (length line % 2 ≡ 0 → ⊥) → false ≡ formed line
-  unfolding formed
-  formed-odd e = rw (ne_eqb (length line % 2) 0 e) (last (leb 1 (length line)))
-    where
-      last : (b : Bool) → false ≡ (b && false)
-      last true = refl
-      last false = refl
-
-  pub formed-long : 32770 < length line → false ≡ formed line
-  unfolding formed
-  formed-long l = rw (lt-leb (length line) 32770 l, le-leb 1 (length line) (omega arith)) (last (eqb (length line % 2) 0))
-    where
-      last : (b : Bool) → false ≡ (b && false)
-      last true = refl
-      last false = refl
-
-  pub formed-rest : (length line ≡ 0 → ⊥) → length line % 2 ≡ 0 → length line ≤ 32770 → all_digits line ≡ formed line
-  unfolding formed
-  formed-rest some even l = rw (le-leb 1 (length line) (omega arith), eq-eqb (length line % 2) 0 even, le-leb (length line) 32770 l)
 
 -- what is known of a line that is well formed
 pub record Formed (line : List ℕ) : Type 0 where
@@ -113,15 +99,16 @@ formed-known line e =
       digits = and_right (leb n 32770) _ last;
     }
 
--- what stands after the kind, as the code lends it
-abbrev pub behind : List ℕ → List ℕ
-behind frame = take (length frame - 1) (drop 1 frame)
-
-behind-is : (frame : List ℕ) → behind frame ≡ drop 1 frame
-behind-is frame = take_all (length frame - 1) (drop 1 frame) (simp length-drop (omega arith))
-
 -- what a frame of each kind does
 module _ (t x : List ℕ) (n : ℕ) (frame : List ℕ) where
+  pub heard-known : known frame ≡ true → heard t x n frame ≡ frame_turn t x frame
+  unfolding heard
+  heard-known e = rw e
+
+  pub heard-bad : known frame ≡ false → heard t x n frame ≡ ignored t x n
+  unfolding heard
+  heard-bad e = rw e
+
   pub heard-1 : get_or frame 0 0 ≡ 1 → heard t x n frame ≡ after_tray (drop 1 frame) (check_tray_answer (drop 1 frame))
   unfolding heard known frame_turn
   heard-1 e = rw e
@@ -130,119 +117,168 @@ module _ (t x : List ℕ) (n : ℕ) (frame : List ℕ) where
   unfolding heard known frame_turn
   heard-2 e l = rw (e, l)
 
-  pub heard-2-wrong : get_or frame 0 0 ≡ 2 → (length frame ≡ 2 → ⊥) → heard t x n frame ≡ ignored t x n
+  pub heard-3 : get_or frame 0 0 ≡ 3 → length frame ≡ 9 → heard t x n frame ≡ record { tray = t; index = x; says = after_get (get_answer t x (drop 1 frame)) }
+  unfolding heard known frame_turn
+  heard-3 e l = rw (e, l)
+
+  pub heard-4 : get_or frame 0 0 ≡ 4
+      → heard t x n frame ≡ record { tray = t; index = x; says = listed_says t x (drop 1 frame) }
+  unfolding heard known frame_turn
+  heard-4 e = rw e
+
+  -- and what is no frame
+  pub wrong-2 : get_or frame 0 0 ≡ 2 → (length frame ≡ 2 → ⊥) → heard t x n frame ≡ ignored t x n
   unfolding heard known
-  heard-2-wrong e l = rw (e, ne_eqb (length frame) 2 l)
+  wrong-2 e l = rw (e, ne_eqb (length frame) 2 l)
 
-  -- any other frame changes nothing
-  heard-3 : get_or frame 0 0 ≡ 3 → heard t x n frame ≡ record { tray = t; index = x; says = read_says t x n frame }
-  unfolding heard known frame_turn read_says get_says ignored
-  heard-3 e = rw e (cases (eqb (length frame) 9) (λ y. rw y) (λ y. rw y))
+  pub wrong-3 : get_or frame 0 0 ≡ 3 → (length frame ≡ 9 → ⊥) → heard t x n frame ≡ ignored t x n
+  unfolding heard known
+  wrong-3 e l = rw (e, ne_eqb (length frame) 9 l)
 
-  pub heard-read : (get_or frame 0 0 ≡ 1 → ⊥) → (get_or frame 0 0 ≡ 2 → ⊥) → heard t x n frame ≡ record { tray = t; index = x; says = read_says t x n frame }
-  unfolding heard known frame_turn read_says sheet_says ignored
-  heard-read a b =
+  pub unknown : (get_or frame 0 0 ≡ 1 → ⊥) → (get_or frame 0 0 ≡ 2 → ⊥) → (get_or frame 0 0 ≡ 3 → ⊥) → (get_or frame 0 0 ≡ 4 → ⊥)
+      → heard t x n frame ≡ ignored t x n
+  unfolding heard known
+  unknown a b c d =
       let kind = get_or frame 0 0 in
-      cases (eqb kind 3) (λ y. heard-3 (eqb-true kind 3 y))
-      (λ y. rw (ne_eqb kind 1 a, ne_eqb kind 2 b, y) (cases (eqb kind 4) (λ z. rw z) (λ z. rw z)))
-
--- what is said of a frame that changes nothing
-abbrev Read : ℕ → List ℕ → List ℕ → Type 0
-Read k out says = Front k line_size out (answer_line says)
-
-module _ (t x : List ℕ) (n : ℕ) (frame : List ℕ) {k : ℕ} {out : List ℕ} where
-  pub read-get : get_or frame 0 0 ≡ 3 → length frame ≡ 9 → Read k out (get_says t x (behind frame)) → Read k out (read_says t x n frame)
-  unfolding read_says
-  read-get e l f = rw (e, l) (rw (behind-is frame) at f)
-
-  pub read-wrong : get_or frame 0 0 ≡ 3 → (length frame ≡ 9 → ⊥) → Read k out (bad_answer n) → Read k out (read_says t x n frame)
-  unfolding read_says
-  read-wrong e l f = rw (e, ne_eqb (length frame) 9 l) f
-
-  pub read-list : get_or frame 0 0 ≡ 4 → Read k out (sheet_says t x (behind frame)) → Read k out (read_says t x n frame)
-  unfolding read_says
-  read-list e f = rw e (rw (behind-is frame) at f)
-
-  pub read-unknown : (get_or frame 0 0 ≡ 3 → ⊥) → (get_or frame 0 0 ≡ 4 → ⊥) → Read k out (bad_answer n) → Read k out (read_says t x n frame)
-  unfolding read_says
-  read-unknown a b f = rw (ne_eqb (get_or frame 0 0) 3 a, ne_eqb (get_or frame 0 0) 4 b) f
-
--- 01 empties the index, and 02 leaves the tray
-tray-index : (t : List ℕ) (a : TrayAnswer) → (after_tray t a).index ≡ []
-unfolding after_tray
-tray-index t (Records n) = refl
-tray-index t (TrayRefused r) = refl
-
-build-tray : (t : List ℕ) (d : ℕ) (a : BuildAnswer) → (after_build t d a).tray ≡ t
-unfolding after_build
-build-tray t d (Written n) = refl
-build-tray t d (BuildRefused r) = refl
+      rw (ne_eqb kind 1 a, ne_eqb kind 2 b, ne_eqb kind 3 c, ne_eqb kind 4 d)
 
 -- each way out
-module _ {kept : Kept} {tray index room out : List ℕ} (b : Buffers kept tray index room out) (n : ℕ) where
-  abbrev After : List ℕ → Turn
-  After frame = heard (take kept.tray tray) (take kept.index index) n frame
+module _ {d d₁ : Drawer} (number : d₁.number ≡ d.number) where
+  pub tray-kept : (bytes : List ℕ) {a : Result ℕ Refusal} {n : ℕ} → a ≡ check_tray_answer bytes → a ≡ Ok n → filled d₁.tray ≡ bytes
+      → filled d₁.index ≡ [] → filled d₁.output ≡ filled d.output ++ answer_line (answer 1 0 n [])
+      → Turned (after_tray bytes (check_tray_answer bytes)) d d₁
+  unfolding after_tray
+  tray-kept bytes is e t x s = rw (sym is ∙ e) (record { tray = t; index = x; number = number; said = s })
 
-  kept-tray : Front kept.tray tray_size tray (take kept.tray tray)
-  kept-tray = record { room-is = b.tray-room; fits = b.tray-fits; is = refl }
+  pub tray-refused : (bytes : List ℕ) {a : Result ℕ Refusal} {r : Refusal} → a ≡ check_tray_answer bytes → a ≡ Err r → filled d₁.tray ≡ []
+      → filled d₁.index ≡ [] → filled d₁.output ≡ filled d.output ++ answer_line (refusal 1 r)
+      → Turned (after_tray bytes (check_tray_answer bytes)) d d₁
+  unfolding after_tray
+  tray-refused bytes is e t x s = rw (sym is ∙ e) (record { tray = t; index = x; number = number; said = s })
 
-  kept-index : Front kept.index room_size index (take kept.index index)
-  kept-index = record { room-is = b.index-room; fits = b.index-fits; is = refl }
+  module _ (same_tray : filled d₁.tray ≡ filled d.tray) where
+    pub index_kept : {t l : List ℕ} (size : ℕ) {k : ℕ} {a : Result ℕ Refusal} → t ≡ filled d.tray → a ≡ build_answer t size (length d.index.bytes)
+        → d₁.index.bytes ≡ build_leaves t size d.index.bytes a → a ≡ Ok k → d₁.index.used ≡ k → l ≡ filled d₁.index
+        → filled d₁.output ≡ filled d.output ++ answer_line (answer 2 0 k l)
+        → Turned (after_build (filled d.tray) size (build_answer (filled d.tray) size room_size)) d d₁
+    unfolding after_build
+    index_kept {t} {l} size {k} at is left e used behind s =
+        let front = index-front t size d.index.bytes d.index.whole is left e in
+        let written : filled d₁.index ≡ index_bytes size (runs_of (filled d.tray)) =
+        ap (λ (n : ℕ). take n d₁.index.bytes) used ∙ front.is ∙ ap (λ (t : List ℕ). index_bytes size (runs_of t)) at in
+        let answered : build_answer (filled d.tray) size room_size ≡ Ok k =
+        ap₂ (λ (t : List ℕ) (n : ℕ). build_answer t size n) (sym at) (sym d.index.whole) ∙ sym is ∙ e in
+        rw answered
+        (record {
+          tray = same_tray;
+          index = written;
+          number = number;
+          said = s ∙ ap (λ (l : List ℕ). filled d.output ++ answer_line (answer 2 0 k l)) (behind ∙ written);
+        })
 
-  pub answered-tray : (frame : List ℕ) {h : Held} {tray₁ out₁ : List ℕ} → get_or frame 0 0 ≡ 1
-      → Holds h tray_size tray₁ out₁ (after_tray (behind frame) (check_tray_answer (behind frame))).tray (after_tray (behind frame) (check_tray_answer (behind frame))).says
-      → Answered (After frame) (record { kept = record { tray = h.kept; index = 0 }; length = h.length }) tray₁ index out₁
-  answered-tray frame e h =
-      let bytes = behind frame in
-      rw (heard-1 (take kept.tray tray) (take kept.index index) n frame e, ← behind-is frame)
-      (record { keeps-tray = h.kept; keeps-index = rw (tray-index bytes (check_tray_answer bytes)) (front-none room_size index b.index-room); says = h.told })
+    pub index-refused : {t : List ℕ} (size : ℕ) {a : Result ℕ Refusal} {r : Refusal} → t ≡ filled d.tray
+        → a ≡ build_answer t size (length d.index.bytes) → a ≡ Err r → filled d₁.index ≡ []
+        → filled d₁.output ≡ filled d.output ++ answer_line (refusal 2 r)
+        → Turned (after_build (filled d.tray) size (build_answer (filled d.tray) size room_size)) d d₁
+    unfolding after_build
+    index-refused size {r = r} at is e none s =
+        let answered : build_answer (filled d.tray) size room_size ≡ Err r =
+        ap₂ (λ (t : List ℕ) (n : ℕ). build_answer t size n) (sym at) (sym d.index.whole) ∙ sym is ∙ e in
+        rw answered (record { tray = same_tray; index = none; number = number; said = s })
 
-  pub answered-build : (frame : List ℕ) {h : Held} {index₁ out₁ : List ℕ} → get_or frame 0 0 ≡ 2 → length frame ≡ 2
-      → Holds h room_size index₁ out₁ (after_build (take kept.tray tray) (get_or frame 1 0) (build_answer (take kept.tray tray) (get_or frame 1 0) room_size)).index
-      (after_build (take kept.tray tray) (get_or frame 1 0) (build_answer (take kept.tray tray) (get_or frame 1 0) room_size)).says
-      → Answered (After frame) (record { kept = record { tray = kept.tray; index = h.kept }; length = h.length }) tray index₁ out₁
-  answered-build frame e l h =
-      let t = take kept.tray tray in
-      let d = get_or frame 1 0 in
-      rw (heard-2 t (take kept.index index) n frame e l)
-      (record { keeps-tray = rw (build-tray t d (build_answer t d room_size)) kept-tray; keeps-index = h.kept; says = h.told })
+    -- what changes nothing that is kept
+    pub said-only : {told says : List ℕ} → filled d₁.index ≡ filled d.index → told ≡ says → filled d₁.output ≡ filled d.output ++ answer_line told
+        → Turned (saying d says) d d₁
+    said-only same e s =
+        record { tray = same_tray; index = same; number = number; said = s ∙ ap (λ (l : List ℕ). filled d.output ++ answer_line l) e }
 
-  -- nothing kept is changed
-  stays : {turn : Turn} {says : List ℕ} {k : ℕ} {out₁ : List ℕ} → turn ≡ record { tray = take kept.tray tray; index = take kept.index index; says = says }
-      → Front k line_size out₁ (answer_line says) → Answered turn (record { kept = kept; length = k }) tray index out₁
-  stays e f = rw e (record { keeps-tray = kept-tray; keeps-index = kept-index; says = f })
+-- what 03 and 04 say
+module _ (d : Drawer) {t x : List ℕ} (at : t ≡ filled d.tray) (on : x ≡ filled d.index) where
+  pub looked : (key : List ℕ) {g a : Value} → g ≡ get_answer t x key → g ≡ a → after_get a ≡ after_get (get_answer (filled d.tray) (filled d.index) key)
+  looked key is e = ap after_get (sym e ∙ is ∙ ap₂ (λ (t x : List ℕ). get_answer t x key) at on)
 
-  pub answered-read : (frame : List ℕ) {k : ℕ} {out₁ : List ℕ} → (get_or frame 0 0 ≡ 1 → ⊥) → (get_or frame 0 0 ≡ 2 → ⊥)
-      → Front k line_size out₁ (answer_line (read_says (take kept.tray tray) (take kept.index index) n frame))
-      → Answered (After frame) (record { kept = kept; length = k }) tray index out₁
-  answered-read frame a b f = stays (heard-read (take kept.tray tray) (take kept.index index) n frame a b) f
+  module _ (prefix room : List ℕ) {a : Result ℕ Refusal} (size : length room ≡ room_size) (is : a ≡ sheet_answer t x prefix (length room)) where
+    answered : {b : Result ℕ Refusal} → a ≡ b → after_sheet (listing (records_of (sheet t x prefix))) b ≡ listed_says (filled d.tray) (filled d.index) prefix
+    answered e =
+        ap (after_sheet (listing (records_of (sheet t x prefix)))) (sym e ∙ is ∙ ap (sheet_answer t x prefix) size)
+        ∙ ap₂ (λ (t x : List ℕ). listed_says t x prefix) at on
 
-  pub answered-bad : {turn : Turn} {k : ℕ} {out₁ : List ℕ} → turn ≡ ignored (take kept.tray tray) (take kept.index index) n
-      → Front k line_size out₁ (answer_line (bad_answer n)) → Answered turn (record { kept = kept; length = k }) tray index out₁
+    pub listed : {k : ℕ} {room₁ : List ℕ} → room₁ ≡ sheet_leaves t x prefix room a → a ≡ Ok k
+        → answer 4 0 k (take (24 * k) room₁) ≡ listed_says (filled d.tray) (filled d.index) prefix
+    unfolding after_sheet
+    listed {k} left e = ap (answer 4 0 k) (sheet-front t x prefix room size is left e).is ∙ answered e
+
+    pub list-refused : {r : Refusal} → a ≡ Err r → refusal 4 r ≡ listed_says (filled d.tray) (filled d.index) prefix
+    unfolding after_sheet
+    list-refused e = answered e
+
+-- what stands after the kind, as the code lends it
+abbrev pub behind : List ℕ → List ℕ
+behind frame = take (length frame - 1) (drop 1 frame)
+
+behind-is : (frame : List ℕ) → behind frame ≡ drop 1 frame
+behind-is frame = take_all (length frame - 1) (drop 1 frame) (simp length-drop (omega arith))
+
+behind-long : (frame : List ℕ) → length (behind frame) ≡ length frame - 1
+behind-long frame = ap length (behind-is frame) ∙ length-drop 1 frame
+
+-- each way out by kind
+module _ {d d₁ : Drawer} (frame : List ℕ) (some : 1 ≤ length frame) where
+  instead : {u v : Turn} → v ≡ u → Turned u d d₁ → Turned v d d₁
+  instead e h = subst (λ (w : Turn). Turned w d d₁) (sym e) h
+
+  pub turned-1 : get_or frame 0 0 ≡ 1 → Turned (after_tray (behind frame) (check_tray_answer (behind frame))) d d₁ → Turned (heard_in d frame) d d₁
+  turned-1 e h = instead (heard-1 (filled d.tray) (filled d.index) d.number frame e) (rw (behind-is frame) at h)
+
+  pub turned-2 : get_or frame 0 0 ≡ 2 → length (behind frame) ≡ 1
+      → Turned (after_build (filled d.tray) (get_or (behind frame) 0 0) (build_answer (filled d.tray) (get_or (behind frame) 0 0) room_size)) d d₁
+      → Turned (heard_in d frame) d d₁
+  turned-2 e l h =
+      let size : get_or (behind frame) 0 0 ≡ get_or frame 1 0 = ap (λ (l : List ℕ). get_or l 0 0) (behind-is frame) ∙ get_or-drop 1 frame 0 0 in
+      instead (heard-2 (filled d.tray) (filled d.index) d.number frame e (omega (arith, behind-long frame))) (rw size at h)
+
+  pub turned-3 : {key : List ℕ} → get_or frame 0 0 ≡ 3 → length (behind frame) ≡ 8 → key ≡ behind frame
+      → Turned (saying d (after_get (get_answer (filled d.tray) (filled d.index) key))) d d₁ → Turned (heard_in d frame) d d₁
+  turned-3 e l is h = instead (heard-3 (filled d.tray) (filled d.index) d.number frame e (omega (arith, behind-long frame))) (rw (is, behind-is frame) at h)
+
+  pub turned-4 : get_or frame 0 0 ≡ 4 → Turned (saying d (listed_says (filled d.tray) (filled d.index) (behind frame))) d d₁ → Turned (heard_in d frame) d d₁
+  turned-4 e h = instead (heard-4 (filled d.tray) (filled d.index) d.number frame e) (rw (behind-is frame) at h)
+
+  module _ (h : Turned (saying d (bad_answer d.number)) d d₁) where
+    as_bad : heard_in d frame ≡ ignored (filled d.tray) (filled d.index) d.number → Turned (heard_in d frame) d d₁
+    unfolding ignored
+    as_bad e = instead e h
+
+    pub bad-2 : get_or frame 0 0 ≡ 2 → (length (behind frame) ≡ 1 → ⊥) → Turned (heard_in d frame) d d₁
+    bad-2 e l = as_bad (wrong-2 (filled d.tray) (filled d.index) d.number frame e (λ z. l (omega (arith, behind-long frame))))
+
+    pub bad-3 : get_or frame 0 0 ≡ 3 → (length (behind frame) ≡ 8 → ⊥) → Turned (heard_in d frame) d d₁
+    bad-3 e l = as_bad (wrong-3 (filled d.tray) (filled d.index) d.number frame e (λ z. l (omega (arith, behind-long frame))))
+
+    pub bad-kind : (get_or frame 0 0 ≡ 1 → ⊥) → (get_or frame 0 0 ≡ 2 → ⊥) → (get_or frame 0 0 ≡ 3 → ⊥) → (get_or frame 0 0 ≡ 4 → ⊥)
+        → Turned (heard_in d frame) d d₁
+    bad-kind a b c e = as_bad (unknown (filled d.tray) (filled d.index) d.number frame a b c e)
+
+-- a line, by whether it is well formed
+module _ {d d₁ : Drawer} (line : List ℕ) where
+  pub line-heard : {frame : List ℕ} → formed line ≡ true → frame ≡ bytes_in line → Turned (heard_in d frame) d d₁ → Turned (turn_in d line) d d₁
+  line-heard e is h =
+      subst (λ (u : Turn). Turned u d d₁) (ap (heard_in d) is ∙ sym (turn-heard (filled d.tray) (filled d.index) d.number line e)) h
+
+  pub line-bad : formed line ≡ false → Turned (saying d (bad_answer d.number)) d d₁ → Turned (turn_in d line) d d₁
   unfolding ignored
-  answered-bad e f = stays e f
+  line-bad e h = subst (λ (u : Turn). Turned u d d₁) (sym (turn-ignored (filled d.tray) (filled d.index) d.number line e)) h
 
--- the frame that was decoded stands at the front of its buffer
+-- the frame that was decoded stands at the front of its room
 pub record Decoded (line frame : List ℕ) : Type 0 where
-  pub fits : length line / 2 ≤ length frame
   pub is : take (length line / 2) frame ≡ bytes_in line
-  pub long : length line / 2 ≡ length (take (length line / 2) frame)
-  pub some : 1 ≤ length line / 2
-  pub short : length line / 2 ≤ 16385
+  pub some : 1 ≤ length (take (length line / 2) frame)
 
 pub decoded : (line frame : List ℕ) {frame₁ : List ℕ} → formed line ≡ true → length frame ≡ 16385 → frame₁ ≡ put frame 0 (bytes_in line) → Decoded line frame₁
 decoded line frame {frame₁} e room is =
     let f = formed-known line e in
     let bytes = bytes_in line in
-    let n = length line / 2 in
-    let long : length bytes ≡ n = length-bytes_in line in
-    let all : 0 + length bytes ≡ n = zero-add (length bytes) ∙ long in
-    let same : length frame₁ ≡ 16385 = ap length is ∙ length-put frame 0 bytes (omega (arith, f.short)) ∙ room in
-    let front : take n frame₁ ≡ bytes = ap (take n) is ∙ (rw all at (take_put frame 0 bytes (omega arith))) in
-    record { fits = omega (arith, f.short); is = front; long = sym (ap length front ∙ long); some = omega (arith, f.some, f.even); short = omega (arith, f.short) }
-
--- a line that was heard
-pub answered-line : (t x : List ℕ) (n : ℕ) (line : List ℕ) {part : List ℕ} {told : Told} {tray index out : List ℕ} → formed line ≡ true → part ≡ bytes_in line
-    → Answered (heard t x n part) told tray index out → Answered (turn t x n line) told tray index out
-answered-line t x n line {told = told} {tray} {index} {out} e is a =
-    subst (λ (u : Turn). Answered u told tray index out) (ap (heard t x n) is ∙ sym (turn-heard t x n line e)) a
+    let all : 0 + length bytes ≡ length line / 2 = zero-add (length bytes) ∙ length-bytes_in line in
+    let front : take (0 + length bytes) frame₁ ≡ bytes = ap (take (0 + length bytes)) is ∙ take_put frame 0 bytes (omega arith) in
+    let spelt : take (length line / 2) frame₁ ≡ bytes = rw all at front in
+    record { is = spelt; some = omega (arith, ap length spelt, length-bytes_in line, f.some, f.even) }

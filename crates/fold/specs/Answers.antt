@@ -3,11 +3,11 @@
 --     leaves-tray, leaves-same                    what is left in the output
 --     noted-folded                                the merge of the runs a to b is the folded run
 --     one-run                                     one run folded is the tray as it is
---     answer-frame, -low, -high, -refused, -sound the answers of fold
+--     answer-frame, -outside, -refused, -sound    the answers of fold
 --     folding-is                                  what a tray that was checked is
-use Rattle.std.specs.Prelude.{◌≡◌, ℕ, ◌≤◌, ◌<◌, true, false, List, length, take}
+use Rattle.std.specs.Prelude.{◌≡◌, ℕ, ◌≤◌, ◌<◌, true, false, List, length, take, Ok, Err, Result, ◌⊎◌}
 use Rattle.std.proofs.Math.Path.{refl, sym}
-use Rattle.std.proofs.Common.{ap, ◌∙◌, subst}
+use Rattle.std.proofs.Common.{ap, ◌∙◌, subst, ⊎_elim, arith}
 use mathlib.Core.List.Memᴰ
 use borrow.Author.Tests.{le-leb, lt-leb, lt-ltb, le-ltb}
 use Rattle.number.specs.Big.{put, Bytes}
@@ -19,17 +19,13 @@ use Rattle.theory.specs.Records.{Record, SoundRecord}
 use Rattle.theory.specs.Hiding.{same_key}
 use Rattle.theory.specs.Merge.{fold}
 use Rattle.theory.proofs.Merge.Chains.{fold_same}
-use Rattle.tray.specs.declared.TrayAnswer.TheVariants.{Records, Refused as TrayRefused}
-use Rattle.tray.specs.declared.frame.TrayFrame.{TrayFrame}
-use Rattle.tray.specs.Frame.{run_count, framed, Framing}
-use Rattle.tray.proofs.FrameCode.{opened}
+use Rattle.tray.specs.declared.Tray.{Tray}
+use Rattle.tray.specs.Frame.{run_count, framed}
 use Rattle.tray.specs.Check.{check_tray_answer}
 use Rattle.tray.proofs.Check.Theorems.{answers-records}
 use Rattle.tray.specs.Meaning.{runs_of}
 use Rattle.tray.specs.Meaning.Laws.{length-runs_of, runs-good}
 use Rattle.tray.specs.Meaning.Back.{fits-runs}
-use Rattle.fold_spec.specs.declared.FoldAnswer.{FoldAnswer}
-use Rattle.fold_spec.specs.declared.FoldAnswer.TheVariants.{Written, Refused}
 use Rattle.fold_spec.specs.Fold.{key_of, folded_run, folded_runs, fold_bytes, fold_size, bounds_hold, after_check, fold_answer, fold_leaves}
 use Rattle.fold_spec.specs.Fold.Laws.{key_rule}
 use Rattle.fold_spec.proofs.Fold.Laws.{length-fold_bytes, fold-copies}
@@ -37,24 +33,24 @@ use Rattle.fold_merge.specs.Folding.{Folding, Noted, merged_run}
 use Rattle.fold_write.specs.Write.{sound_answer}
 
 module _ (a b : ℕ) (t : List (List Record)) (room : ℕ) where
-  pub answer-long : {n : ℕ} → n ≡ length (folded_run a b t) → 4096 < n → Refused (RunLength n) ≡ sound_answer a b t room
+  pub answer-long : {n : ℕ} → n ≡ length (folded_run a b t) → 4096 < n → Err (RunLength n) ≡ sound_answer a b t room
   unfolding sound_answer
   answer-long {n} e l = rw (lt-leb (length (folded_run a b t)) 4096 (rw e at l), e)
 
-  pub answer-fits : {n s : ℕ} → n ≡ length (folded_run a b t) → n ≤ 4096 → s ≡ fold_size a b t → s ≤ room → Written s ≡ sound_answer a b t room
+  pub answer-fits : {n s : ℕ} → n ≡ length (folded_run a b t) → n ≤ 4096 → s ≡ fold_size a b t → s ≤ room → Ok s ≡ sound_answer a b t room
   unfolding sound_answer
   answer-fits e l f k = rw (le-leb (length (folded_run a b t)) 4096 (rw e at l), le-leb (fold_size a b t) room (rw f at k), f)
 
-  pub answer-short : {n s : ℕ} → n ≡ length (folded_run a b t) → n ≤ 4096 → s ≡ fold_size a b t → room < s → Refused (Room s) ≡ sound_answer a b t room
+  pub answer-short : {n s : ℕ} → n ≡ length (folded_run a b t) → n ≤ 4096 → s ≡ fold_size a b t → room < s → Err (Room s) ≡ sound_answer a b t room
   unfolding sound_answer
   answer-short e l f k = rw (le-leb (length (folded_run a b t)) 4096 (rw e at l), lt-leb (fold_size a b t) room (rw f at k), f)
 
 module _ (t out : List ℕ) (a b : ℕ) where
-  pub leaves-tray : {out' : List ℕ} (n : ℕ) → out' ≡ put out 0 (fold_bytes a b (runs_of t)) → out' ≡ fold_leaves t a b out (Written n)
+  pub leaves-tray : {out' : List ℕ} (n : ℕ) → out' ≡ put out 0 (fold_bytes a b (runs_of t)) → out' ≡ fold_leaves t a b out (Ok n)
   unfolding fold_leaves
   leaves-tray n e = e
 
-  pub leaves-same : (r : Refusal) → out ≡ fold_leaves t a b out (Refused r)
+  pub leaves-same : (r : Refusal) → out ≡ fold_leaves t a b out (Err r)
   unfolding fold_leaves
   leaves-same r = refl
 
@@ -69,9 +65,11 @@ pub record OneRun (t : List ℕ) (a b : ℕ) : Type 0 where
   pub size : length t ≡ fold_size a b (runs_of t)
   pub short : length (folded_run a b (runs_of t)) ≤ 4096
 
-pub one-run : {t : List ℕ} {a b : ℕ} {f : TrayFrame} → Folding t a b f → Bytes t → a ≡ b → OneRun t a b
+pub one-run : {tray : Tray} {a b : ℕ} → Folding tray a b → a ≡ b → OneRun tray.bytes.now a b
 unfolding folded_runs folded_run fold
-one-run {t} {a} {b} g bytes e =
+one-run {tray} {a} {b} g e =
+    let t = tray.bytes.now in
+    let bytes = g.bytes in
     let copy : fold_bytes a b (runs_of t) ≡ t = fold-copies g.sound bytes g.within e in
     let inside : b < length (runs_of t) = rw length-runs_of g.within in
     let same : folded_runs b b (runs_of t) ≡ runs_of t = fold_same key_of (same_key key_of) (key_rule SoundRecord) (runs-good g.sound) inside in
@@ -83,39 +81,32 @@ one-run {t} {a} {b} g bytes e =
       short = rw e ((fits-runs g.sound.frame bytes).counts (folded_run b b (runs_of t)) member);
     }
 
-module _ (t : List ℕ) (a b : ℕ) {f : TrayFrame} (room : ℕ) (g : Framing t f) where
-  pub answer-frame : f.fits ≡ false → Refused FrameRefusal ≡ fold_answer t a b room
+module _ (t : List ℕ) (a b room : ℕ) where
+  pub answer-frame : framed t ≡ false → Err FrameRefusal ≡ fold_answer t a b room
   unfolding fold_answer
-  answer-frame e = rw (sym g.fits ∙ e)
+  answer-frame e = rw e
 
-  module _ (fits : f.fits ≡ true) where
-    frame_is : framed t ≡ true
-    frame_is = sym g.fits ∙ fits
-
-    pub answer-low : b < a → Refused (Bounds b) ≡ fold_answer t a b room
+  module _ (fit : framed t ≡ true) {h : ℕ} (runs-are : h ≡ run_count t) where
+    pub answer-outside : (b < a) ⊎ ((a ≤ b) × (h ≤ b)) → Err (Bounds b) ≡ fold_answer t a b room
     unfolding fold_answer bounds_hold
-    answer-low l = rw (frame_is, lt-leb a b l)
+    answer-outside x =
+        ⊎_elim (λ l. rw (fit, lt-leb a b l))
+        (λ p. let l : a ≤ b = p.0 in let m : run_count t ≤ b = omega (arith, p.1) in rw (fit, le-leb a b l, le-ltb b (run_count t) m)) x
 
-    module _ (order : a ≤ b) where
-      pub answer-high : f.runs ≤ b → Refused (Bounds b) ≡ fold_answer t a b room
+    module _ (order : a ≤ b) (within : b < h) where
+      past-bounds : fold_answer t a b room ≡ after_check a b (runs_of t) room (check_tray_answer t)
       unfolding fold_answer bounds_hold
-      answer-high l = rw (frame_is, le-leb a b order, le-ltb b (run_count t) (rw (g.runs frame_is) at l))
+      past-bounds = let l : b < run_count t = omega arith in rw (fit, le-leb a b order, lt-ltb b (run_count t) l)
 
-      module _ (within : b < f.runs) where
-        in-tray : b < run_count t
-        in-tray = rw (g.runs frame_is) at within
+      pub answer-refused : {r : Refusal} → Err r ≡ check_tray_answer t → Err r ≡ fold_answer t a b room
+      unfolding after_check
+      answer-refused e = sym (past-bounds ∙ rw (sym e))
 
-        past-bounds : fold_answer t a b room ≡ after_check a b (runs_of t) room (check_tray_answer t)
-        unfolding fold_answer bounds_hold
-        past-bounds = rw (frame_is, le-leb a b order, lt-ltb b (run_count t) in-tray)
+      pub answer-sound : {n : ℕ} {r : Result ℕ Refusal} → Ok n ≡ check_tray_answer t → r ≡ sound_answer a b (runs_of t) room → r ≡ fold_answer t a b room
+      unfolding after_check sound_answer
+      answer-sound e q = q ∙ sym (past-bounds ∙ rw (sym e))
 
-        pub answer-refused : {r : Refusal} → TrayRefused r ≡ check_tray_answer t → Refused r ≡ fold_answer t a b room
-        unfolding after_check
-        answer-refused e = sym (past-bounds ∙ rw (sym e))
-
-        pub answer-sound : {n : ℕ} {r : FoldAnswer} → Records n ≡ check_tray_answer t → r ≡ sound_answer a b (runs_of t) room → r ≡ fold_answer t a b room
-        unfolding after_check sound_answer
-        answer-sound e q = q ∙ sym (past-bounds ∙ rw (sym e))
-
-        pub folding-is : {n : ℕ} → Records n ≡ check_tray_answer t → Folding t a b f
-        folding-is {n} e = record { opened = opened t g fits; sound = ((answers-records t n).0 (sym e)).0; order = order; within = in-tray }
+-- what a tray that was checked is, with bounds that hold
+pub folding-is : (tray : Tray) {a b n : ℕ} → Bytes tray.bytes.now → a ≤ b → b < tray.runs → Ok n ≡ check_tray_answer tray.bytes.now → Folding tray a b
+folding-is tray {n = n} bytes order within e =
+    record { bytes = bytes; sound = ((answers-records tray.bytes.now n).0 (sym e)).0; order = order; within = omega (arith, tray.frame.runs) }

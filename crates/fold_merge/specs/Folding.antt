@@ -1,7 +1,6 @@
 -- The merge of a tray's runs a to b (docs/RULES.md, "Folding"), as the code takes it: how far each run has been read, the merge of what is left, and
 -- the records that are noted. The laws stand below.
 pub mod Bound
-pub mod Draws
 pub mod Keeping
 pub mod Left
 pub mod Moves
@@ -13,12 +12,17 @@ use Rattle.theory.specs.Records.{Record}
 use Rattle.theory.specs.Hiding.{same_key}
 use Rattle.theory.specs.Listed.{listed}
 use Rattle.theory.specs.Merge.{merged}
-use Rattle.tray.specs.declared.frame.TrayFrame.{TrayFrame}
-use Rattle.tray.specs.Frame.{run_count, count_of, start_of, Opened}
+use Rattle.number.specs.Big.{Bytes}
+use Rattle.tray.specs.declared.Tray.{Tray}
+use Rattle.tray.specs.Frame.{run_count, count_of, start_of}
 use Rattle.tray.specs.Run.{record_from}
 use Rattle.tray.specs.Check.{Sound}
 use Rattle.tray.specs.Meaning.Laws.{run_in}
 use Rattle.index.specs.Rules.{key_of}
+
+-- the part of a list from place x up to place y
+abbrev pub between : ℕ → ℕ → List ℕ → List ℕ
+between x y s = take (y - x) (drop x s)
 
 -- the runs a to b of a tray made one
 unfoldable pub merged_run : ℕ → ℕ → List (List Record) → List Record
@@ -49,11 +53,6 @@ unfoldable pub left_to : List ℕ → List ℕ → ℕ → ℕ
 left_to t places zero = 0
 left_to t places (suc r) = left_to t places r + (count_of t r - get_or places r 0)
 
--- the runs from h on have been read to their ends
-pub record Ended (t places : List ℕ) (h : ℕ) : Type 0 where
-  pub most : h ≤ run_count t
-  pub ended : (r : ℕ) → h ≤ r → r < run_count t → count_of t r ≤ get_or places r 0
-
 -- where the next record of run r stands in the tray
 unfoldable pub next_at : List ℕ → List ℕ → ℕ → ℕ
 next_at t places r = start_of t r + 25 * get_or places r 0
@@ -76,9 +75,9 @@ pub record Noted (t : List ℕ) (w : List Record) (kept : List ℕ) (n : ℕ) : 
   pub inside : All (λ at. at + 25 ≤ length t) (take n kept)
   pub are : n ≤ 4096 → map (record_from t) (take n kept) ≡ w
 
--- a sound tray with its frame, and bounds that hold
-pub record Folding (t : List ℕ) (a b : ℕ) (f : TrayFrame) : Type 0 where
-  pub opened : Opened t f
-  pub sound : Sound t
+-- a sound tray, and bounds that hold
+pub record Folding (tray : Tray) (a b : ℕ) : Type 0 where
+  pub bytes : Bytes tray.bytes.now
+  pub sound : Sound tray.bytes.now
   pub order : a ≤ b
-  pub within : b < run_count t
+  pub within : b < run_count tray.bytes.now

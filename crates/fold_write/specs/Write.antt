@@ -2,19 +2,15 @@
 pub mod Parts
 pub mod Trays
 pub mod Writes
-use Rattle.std.specs.Prelude.{ℕ, ◌+◌, ◌-◌, ◌*◌, cond, List, [], ◌∷◌, ◌++◌, length, take, drop, leb}
+use Rattle.refusal.specs.declared.Refusal.{Refusal}
+use Rattle.std.specs.Prelude.{ℕ, ◌+◌, ◌-◌, ◌*◌, cond, List, [], ◌∷◌, ◌++◌, length, take, drop, leb, Ok, Err, Result}
 use Rattle.number.specs.Big.{bytes_of}
 use Rattle.refusal.specs.declared.Refusal.TheVariants.{Room, RunLength}
 use Rattle.theory.specs.Records.{Record}
 use Rattle.tray.specs.Frame.{run_count}
 use Rattle.tray.specs.Meaning.{records_bytes}
-use Rattle.fold_spec.specs.declared.FoldAnswer.{FoldAnswer}
-use Rattle.fold_spec.specs.declared.FoldAnswer.TheVariants.{Written, Refused}
 use Rattle.fold_spec.specs.Fold.{folded_run, fold_size}
-
--- the part of a list from place x up to place y
-abbrev pub between : ℕ → ℕ → List ℕ → List ℕ
-between x y s = take (y - x) (drop x s)
+use Rattle.fold_merge.specs.Folding.{between}
 
 -- the header and the counts of a tray whose runs a to b are one of n records
 unfoldable pub head_bytes : List ℕ → ℕ → ℕ → ℕ → List ℕ
@@ -26,7 +22,7 @@ unfoldable pub body_bytes : List ℕ → ℕ → ℕ → ℕ → List Record →
 body_bytes t x y z w = between x y t ++ (records_bytes w ++ between z (length t) t)
 
 -- the answer for a sound tray and bounds that hold: 12, then 7
-unfoldable pub sound_answer : ℕ → ℕ → List (List Record) → ℕ → FoldAnswer
+unfoldable pub sound_answer : ℕ → ℕ → List (List Record) → ℕ → Result ℕ Refusal
 sound_answer a b t room =
-    cond (leb (length (folded_run a b t)) 4096) (cond (leb (fold_size a b t) room) (Written (fold_size a b t)) (Refused (Room (fold_size a b t))))
-    (Refused (RunLength (length (folded_run a b t))))
+    cond (leb (length (folded_run a b t)) 4096) (cond (leb (fold_size a b t) room) (Ok (fold_size a b t)) (Err (Room (fold_size a b t))))
+    (Err (RunLength (length (folded_run a b t))))

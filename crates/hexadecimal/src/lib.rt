@@ -7,22 +7,14 @@ ghost use Rattle.hexadecimal.specs.Hex.{is_digit, digit_of, digit as digit_for, 
 ghost use Rattle.hexadecimal.specs.Hex.Code.{fault as fault_of};
 
 // 0 for a digit, 1 for any other character.
+#[tactic(auto, using(std::proofs::lemmas::Bool::Decides::nat_tests), unfolding(crate::specs::Hex::Code::fault, crate::specs::Hex::is_digit))]
 fn fault(c: u8) -> u16
     ensures { result ≡ fault_of c }
 {
-    if c < 48 {
-        return 1;
+    match c {
+        b'0'..=b'9' | b'a'..=b'f' => 0,
+        _ => 1,
     }
-    if c <= 57 {
-        return 0;
-    }
-    if c < 97 {
-        return 1;
-    }
-    if c <= 102 {
-        return 0;
-    }
-    1
 }
 
 // Every character of a line is a digit. The others are counted, and the count fits 16 bits.
@@ -30,12 +22,9 @@ pub fn all_digits(line: &[u8]) -> bool
     requires { length line.now ≤ 32770 }
     ensures { result ≡ all_digits line.now }
 {
-    let n = line.len();
     let mut faults: u16 = 0;
-    let mut i: usize = 0;
-    while i < n {
-        faults += fault(line[i]);
-        i += 1;
+    for c in line {
+        faults += fault(*c);
     }
     faults == 0
 }
@@ -63,11 +52,8 @@ pub fn decode(line: &[u8], frame: &mut [u8])
     requires line_in_bounds { length line.now / 2 ≤ length frame.old }
     ensures { frame.new ≡ put frame.old 0 (bytes_in line.now) }
 {
-    let n = line.len() / 2;
-    let mut i: usize = 0;
-    while i < n {
+    for i in 0..line.len() / 2 {
         frame[i] = digit_of(line[2 * i]) * 16 + digit_of(line[2 * i + 1]);
-        i += 1;
     }
 }
 
@@ -76,12 +62,8 @@ pub fn encode(bytes: &[u8], out: &mut [u8], at: usize)
     requires { at + 2 * length bytes.now ≤ length out.old }
     ensures { out.new ≡ put out.old at (hex_of bytes.now) }
 {
-    let n = bytes.len();
-    let mut i: usize = 0;
-    while i < n {
-        let b = bytes[i];
-        out[at + 2 * i] = digit(b / 16);
-        out[at + 2 * i + 1] = digit(b % 16);
-        i += 1;
+    for (i, b) in bytes.iter().enumerate() {
+        out[at + 2 * i] = digit(*b / 16);
+        out[at + 2 * i + 1] = digit(*b % 16);
     }
 }

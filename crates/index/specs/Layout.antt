@@ -1,6 +1,7 @@
 -- Where things lie in an index (docs/FORMAT.md, "The index"): byte 0 is H, byte 1 the segment size D, bytes 2 and 3 zero, bytes 4 to 7 the
 -- segment count S; then S segments, each an anchor key (8), H offsets (2 each) and D selectors.
 pub mod Code
+pub mod Opens
 pub mod Laws
 use Rattle.std.specs.Prelude.{ℕ, ◌+◌, ◌*◌, ◌≤◌, ◌≡◌, Bool, ◌&&◌, List, length, get_or, leb, eqb}
 use Rattle.number.specs.Big.{be}

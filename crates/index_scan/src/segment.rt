@@ -1,296 +1,143 @@
 // The check of an index's segments in one pass, about one key comparison a record and no merge.
-ghost use Rattle.std.specs.Prelude.{◌≡◌, ◌+◌, ◌*◌, ◌-◌, ◌≤◌, ◌<◌, length};
-ghost use Rattle.tray.specs.Frame.{run_count};
-ghost use Rattle.index.specs.Scan.{heads_above, offsets_hold, only_placeholders, following, selectors_scan, segment_scan};
-ghost use Rattle.index.specs.Scan.Code.{Reading, above_in, same_to, step_of, begin_of, trailed, told};
+ghost use Rattle.std.specs.Prelude.{◌≡◌, ◌+◌, ◌*◌, ◌-◌, ◌≤◌, ◌<◌, ◌↔◌, length, IsTrue, All};
+ghost use Rattle.index.specs.Layout.{segment_at};
+ghost use Rattle.index.specs.Scan.{heads_above, offsets_hold, following, used_up, segment_scan};
+ghost use Rattle.index.specs.Scan.Code.{NextPlace, step_of, begin_of, trailed, told};
 
 use crate::selector::{may_begin, may_follow};
-use number::{big2, big8, usize_of_u8};
-use tray::run::head_of;
-use tray::{Place, RunNo};
+use index::{Index, SegmentNo};
+use number::BigEndian;
+use tray::{Place, RunNo, Tray};
 
 // Whether the offsets of the segment at a byte are the places.
-fn offsets_hold(x: &[u8], at: usize, h: u8, places: &[u16]) -> bool
+fn offsets_hold(x: &[u8], at: usize, h: u8, places: &[u16; 63]) -> bool
+    requires h_bound { h ≤ 63 }
     requires h_in_bounds { at + 8 + 2 * h ≤ length x.now }
-    requires h_in_bounds_2 { h ≤ length places.now }
     ensures { result ≡ offsets_hold x.now at places.now h }
 {
-    let mut r = usize_of_u8(h);
-    while 0 < r {
-        r -= 1;
-        if big2(x, at + 8 + 2 * r) == places[r] {
-            continue;
+    for r in 0..usize::from(h) {
+        if u16::read(x, at + 8 + 2 * r) != places[r] {
+            return false;
         }
-        return false;
     }
     true
 }
 
-// Whether the bytes of a stretch are placeholders.
-fn only_placeholders(x: &[u8], from: usize, to: usize) -> bool
-    requires { (from ≤ to) × (to ≤ length x.now) }
-    ensures { result ≡ only_placeholders x.now (to - from) from }
+// Whether each of some bytes is a placeholder.
+fn only_placeholders(part: &[u8]) -> bool
+    ensures { IsTrue result ↔ All (λ v. v ≡ 63) part.now }
 {
-    let mut i = from;
-    while i < to {
-        if x[i] == 63 {
-            i += 1;
-            continue;
-        }
-        return false;
-    }
-    true
+    part.iter().all(|v| *v == 63)
 }
 
-// Whether the next key of a run, if it has one, is above the last one.
-fn head_above(
-    t: &[u8],
-    counts: &[u16],
-    starts: &[usize],
-    places: &[u16],
-    r: RunNo,
-    last: u64,
-) -> bool
-    requires reading { Reading t.now counts.now starts.now places.now }
-    requires r_bound { r.0 < run_count t.now }
-    ensures { result ≡ above_in t.now places.now last r.0 }
+// The place of a run's next record, where the tray has that run and the run a record left.
+fn next_place(tray: &Tray, places: &[u16; 63], r: RunNo) -> Option<Place>
+    ensures { NextPlace tray.now.bytes.now tray.now.runs places.now r.0 result }
 {
-    let n = r.0;
-    let i = usize_of_u8(n);
-    let p = places[i];
-    if p < counts[i] {
-        let e = head_of(t, starts, RunNo(n), Place(p));
-        return last < e.key;
+    if r.0 < tray.runs {
+        let p = places[usize::from(r.0)];
+        if p < tray.count(r) {
+            return Some(Place(p));
+        }
     }
-    true
+    None
 }
 
-// Whether every run's next key is above the last one.
-fn heads_above(t: &[u8], counts: &[u16], starts: &[usize], places: &[u16], h: u8, last: u64) -> bool
-    requires reading { Reading t.now counts.now starts.now places.now }
-    requires h_value { h ≡ run_count t.now }
-    ensures { result ≡ heads_above t.now places.now last h }
+// Whether every run's next key, if it has one, is above the last one.
+fn heads_above(tray: &Tray, places: &[u16; 63], last: u64) -> bool
+    ensures { result ≡ heads_above tray.now.bytes.now places.now last tray.now.runs }
 {
-    let mut r = h;
-    while 0 < r {
-        r -= 1;
-        if head_above(t, counts, starts, places, RunNo(r), last) {
-            continue;
+    for r in 0..tray.runs {
+        if let Some(p) = next_place(tray, places, RunNo(r)) {
+            let e = tray.head(RunNo(r), p);
+            if e.key <= last {
+                return false;
+            }
         }
-        return false;
     }
     true
 }
 
 // Whether every run has been read to its end.
-pub fn used_up(counts: &[u16], places: &[u16], h: u8) -> bool
-    requires { (h ≤ length counts.now) × (h ≤ length places.now) }
-    ensures { result ≡ same_to places.now counts.now h }
+pub fn used_up(tray: &Tray, places: &[u16; 63]) -> bool
+    ensures { result ≡ used_up tray.now.bytes.now places.now tray.now.runs }
 {
-    let mut r = usize_of_u8(h);
-    while 0 < r {
-        r -= 1;
-        if places[r] == counts[r] {
-            continue;
-        }
-        return false;
-    }
-    true
+    let h = usize::from(tray.runs);
+    places[..h] == tray.counts[..h]
 }
 
-// What some selectors come to: whether they are right, and the key of the last record.
-#[derive(Clone, Copy)]
-struct Steps {
-    right: bool,
-    last: u64,
-}
-
-// One selector after a record with key `last` of run `before`: where it may follow, its record is read.
-fn check_next(
-    t: &[u8],
-    h: u8,
-    counts: &[u16],
-    starts: &[usize],
-    places: &mut [u16],
-    v: u8,
-    last: u64,
-    before: u8,
-) -> Steps
-    requires reading { Reading t.now counts.now starts.now places.old }
-    requires h_value { (h ≡ run_count t.now) × (before < 64) }
-    ensures { trailed result.right places.new result.last ≡ step_of t.now h places.old v last before }
+// One selector after a record with key `last` of run `before`: where it may follow, its record is read, and its key is the answer. This and
+// `check_first` are no one function that takes the test as a closure: its contract, about each result of any test, is longer than what they share.
+fn check_next(tray: &Tray, places: &mut [u16; 63], v: u8, last: u64, before: u8) -> Option<u64>
+    requires { before < 64 }
+    ensures { trailed result places.new ≡ step_of tray.now.bytes.now tray.now.runs places.old v last before }
 {
-    let r = v % 64;
-    if r < h {
-        let i = usize_of_u8(r);
-        let p = places[i];
-        if p < counts[i] {
-            let e = head_of(t, starts, RunNo(r), Place(p));
-            if may_follow(last, before, v, e) {
-                places[i] = p + 1;
-                return Steps {
-                    right: true,
-                    last: e.key,
-                };
-            }
-        }
+    let r = RunNo(v % 64);
+    let p = next_place(tray, places, r)?;
+    let e = tray.head(r, p);
+    if may_follow(last, before, v, e) {
+        places[usize::from(r.0)] = p.0 + 1;
+        return Some(e.key);
     }
-    Steps {
-        right: false,
-        last: 0,
-    }
+    None
 }
 
-// The first selector of a segment: where it may begin and its record has the anchor's key, the record is read.
-fn check_first(
-    t: &[u8],
-    h: u8,
-    counts: &[u16],
-    starts: &[usize],
-    places: &mut [u16],
-    v: u8,
-    anchor: u64,
-) -> Steps
-    requires reading { Reading t.now counts.now starts.now places.old }
-    requires h_value { h ≡ run_count t.now }
-    ensures { trailed result.right places.new result.last ≡ begin_of t.now h places.old v anchor }
+// The first selector of a segment: where it may begin and its record has the anchor's key, the record is read, and its key is the answer.
+fn check_first(tray: &Tray, places: &mut [u16; 63], v: u8, anchor: u64) -> Option<u64>
+    ensures { trailed result places.new ≡ begin_of tray.now.bytes.now tray.now.runs places.old v anchor }
 {
-    let r = v % 64;
-    if r < h {
-        let i = usize_of_u8(r);
-        let p = places[i];
-        if p < counts[i] {
-            let e = head_of(t, starts, RunNo(r), Place(p));
-            if may_begin(v, e) {
-                let key = e.key;
-                if anchor == key {
-                    places[i] = p + 1;
-                    return Steps {
-                        right: true,
-                        last: key,
-                    };
-                }
-            }
-        }
+    let r = RunNo(v % 64);
+    let p = next_place(tray, places, r)?;
+    let e = tray.head(r, p);
+    if may_begin(v, e) && anchor == e.key {
+        places[usize::from(r.0)] = p.0 + 1;
+        return Some(e.key);
     }
-    Steps {
-        right: false,
-        last: 0,
-    }
+    None
 }
 
-// The selectors of a stretch, after a record with key `first` of run `first_run`.
+// Some selectors after a record with key `first` of run `first_run`: the key of the last record, where they are right.
 fn check_following(
-    t: &[u8],
-    x: &[u8],
-    h: u8,
-    counts: &[u16],
-    starts: &[usize],
-    from: usize,
-    to: usize,
-    places: &mut [u16],
+    tray: &Tray,
+    selectors: &[u8],
+    places: &mut [u16; 63],
     first: u64,
     first_run: u8,
-) -> Steps
-    requires reading { Reading t.now counts.now starts.now places.old }
-    requires h_value { (h ≡ run_count t.now) × (first_run < 64) }
-    requires from_le_to { (from ≤ to) × (to ≤ length x.now) }
-    ensures { trailed result.right places.new result.last ≡ following t.now h x.now (to - from) from places.old first first_run }
+) -> Option<u64>
+    requires { first_run < 64 }
+    ensures { trailed result places.new ≡ following tray.now.bytes.now tray.now.runs selectors.now (length selectors.now) 0 places.old first first_run }
 {
     let mut last = first;
     let mut before = first_run;
-    let mut i = from;
-    while i < to {
-        let v = x[i];
+    for (i, &v) in selectors.iter().enumerate() {
         if v == 63 {
-            return Steps {
-                right: only_placeholders(x, i + 1, to),
-                last,
-            };
+            return only_placeholders(&selectors[i + 1..]).then_some(last);
         }
-        let s = check_next(t, h, counts, starts, places, v, last, before);
-        let right = s.right;
-        if right {
-            last = s.last;
-            before = v % 64;
-            i += 1;
-            continue;
-        }
-        return Steps { right: false, last };
+        last = check_next(tray, places, v, last, before)?;
+        before = v % 64;
     }
-    Steps { right: true, last }
+    Some(last)
 }
 
-// The selectors of a segment: the first one, those that follow, and at their end every run's next key above the last one.
-fn check_selectors(
-    t: &[u8],
-    x: &[u8],
-    h: u8,
-    counts: &[u16],
-    starts: &[usize],
-    from: usize,
-    to: usize,
-    anchor: u64,
-    places: &mut [u16],
-) -> bool
-    requires reading { Reading t.now counts.now starts.now places.old }
-    requires h_value { h ≡ run_count t.now }
-    requires from_lt_to { (from < to) × (to ≤ length x.now) }
-    ensures { told result places.new ≡ selectors_scan t.now h x.now (to - from) anchor from places.old }
+// One segment: its offsets, its first selector, those that follow, and at their end every run's next key above the last one.
+pub fn check_segment(tray: &Tray, index: &Index, g: SegmentNo, places: &mut [u16; 63]) -> bool
+    requires runs { index.now.runs ≡ tray.now.runs }
+    requires bounds { (g.0 < index.now.segments) × (0 < index.now.size) }
+    ensures { told result places.new ≡ segment_scan tray.now.bytes.now tray.now.runs index.now.bytes.now index.now.size (segment_at tray.now.runs index.now.size g.0) places.old }
 {
+    let x = index.bytes;
+    let at = index.segment_at(g);
+    if !offsets_hold(x, at, tray.runs, places) {
+        return false;
+    }
+    let from = at + 8 + 2 * usize::from(tray.runs);
+    let to = from + usize::from(index.size);
     let v = x[from];
-    let s = check_first(t, h, counts, starts, places, v, anchor);
-    let right = s.right;
-    if right {
-        let w = check_following(
-            t,
-            x,
-            h,
-            counts,
-            starts,
-            from + 1,
-            to,
-            places,
-            s.last,
-            v % 64,
-        );
-        let kept = w.right;
-        if kept {
-            return heads_above(t, counts, starts, places, h, w.last);
-        }
-    }
-    false
-}
-
-// One segment of d, from the byte where it starts.
-pub fn check_segment(
-    t: &[u8],
-    x: &[u8],
-    h: u8,
-    d: u8,
-    at: usize,
-    counts: &[u16],
-    starts: &[usize],
-    places: &mut [u16],
-) -> bool
-    requires reading { Reading t.now counts.now starts.now places.old }
-    requires h_value { (h ≡ run_count t.now) × (0 < d) }
-    requires d_in_bounds { at + 8 + 2 * h + d ≤ length x.now }
-    ensures { told result places.new ≡ segment_scan t.now h x.now d at places.old }
-{
-    if offsets_hold(x, at, h, places) {
-        let from = at + 8 + 2 * usize_of_u8(h);
-        return check_selectors(
-            t,
-            x,
-            h,
-            counts,
-            starts,
-            from,
-            from + usize_of_u8(d),
-            big8(x, at),
-            places,
-        );
-    }
-    false
+    let Some(first) = check_first(tray, places, v, u64::read(x, at)) else {
+        return false;
+    };
+    let Some(last) = check_following(tray, &x[from + 1..to], places, first, v % 64) else {
+        return false;
+    };
+    heads_above(tray, places, last)
 }

@@ -15,7 +15,7 @@ use Rattle.tray.specs.Meaning.{runs_of}
 use Rattle.fold_spec.specs.Fold.{folded_run, fold_answer, fold_leaves, Calls, no_call, call}
 use Rattle.fold_spec.specs.Fold.Laws.{InBounds}
 use Rattle.theorems.specs.Unchanged.{Folded}
-use Rattle.theorems.specs.Told.Laws.{tray-zero, index-zero, fold-zero}
+use Rattle.theorems.specs.Told.Laws.{count-zero}
 use Rattle.kanyorith.specs.Promises.{CheckTray, Fold}
 use Rattle.theorems.specs.Exactly.{FoldSays, fold-1, fold-8, fold-3, fold-2, fold-12, fold-7, fold-0, fold-exactly}
 use Rattle.kanyorith.specs.Reads.{Accepted}
@@ -28,12 +28,12 @@ pub data Folds : List ℕ → List ℕ → Type 0 where
 pub folds-calls : {t u : List ℕ} → Folds t u → Calls t u
 folds-calls no-fold = no_call
 folds-calls {u = u} (one-fold {t} {out} {left} {a = a} {b} {n} f rest) =
-    let e = fold-zero (fold_answer t a b (length out)) f.answers in
+    let e = count-zero (fold_answer t a b (length out)) f.answers in
     call a b n out e (subst (λ (l : List ℕ). Calls (take n l) u) (f.leaving ∙ ap (fold_leaves t a b out) e) (folds-calls rest))
 
 -- check tray accepts a sound tray
 pub sound-tray : {t : List ℕ} {n : ℕ} → CheckTray t 0 n → Sound t
-sound-tray {t} {n} c = ((answers-records t n).0 (tray-zero (check_tray_answer t) c.answers)).0
+sound-tray {t} {n} c = ((answers-records t n).0 (count-zero (check_tray_answer t) c.answers)).0
 
 -- a sound tray t, what a chain makes of it, u, and accepted indexes of both
 pub record Unchanged (t x u y : List ℕ) : Type 0 where
@@ -52,8 +52,8 @@ unchanged {t} {x} {u} {y} w =
       folds = folds-calls w.folds;
       before = w.before.segments;
       after = w.after.segments;
-      accepts = index-zero _ w.before.says.answers;
-      accepts-after = index-zero _ w.after.says.answers;
+      accepts = count-zero _ w.before.says.answers;
+      accepts-after = count-zero _ w.after.says.answers;
     }
 
 -- a call of fold that is not refused for its length has none above 4,096

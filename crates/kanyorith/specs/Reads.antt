@@ -8,8 +8,9 @@
 --     Onward, pages-onward         page from any cursor that belongs
 --     next-never-lost, page-never-lost     no cursor that belongs is refused
 --     sheet-lists                  sheet
+use Rattle.refusal.specs.declared.Refusal.{Refusal}
 use Rattle.std.proofs.Math.Path.{◌≡◌, refl, sym, ap, ap₂, subst}
-use Rattle.std.proofs.Common.{◌∙◌, ⊎_elim, arith, div-add-mod', length-drop}
+use Rattle.std.proofs.Common.{◌∙◌, ⊎_elim, arith, div-add-mod', length-drop, Result, Ok, Err}
 use Rattle.std.specs.Prelude.{ℕ, zero, suc, ◌-◌, ◌*◌, ◌≤◌, ◌<◌, true, get_or, take, eqb, leb}
 use mathlib.Core.List.Memᴰ
 use mathlib.Core.List.{List, [], ◌∷◌, ◌++◌, map, append_assoc, map-append}
@@ -26,14 +27,12 @@ use Rattle.theory.specs.Tests.{split, never}
 use Rattle.tray.specs.Frame.{run_count, run_bytes}
 use Rattle.tray.specs.Run.{record_at}
 use Rattle.index.specs.Check.{check_index_answer}
-use Rattle.answers.specs.declared.ValueAnswer.{ValueAnswer}
 use Rattle.walk.specs.declared.cursor.Cursor.{Cursor}
 use Rattle.tray.specs.declared.Place.{Place}
 use Rattle.walk.specs.Code.{numbers, spot_of}
 use Rattle.theorems.specs.Cursors.{spot_in, cursor_in, cursor_numbers}
-use Rattle.answers.specs.declared.CursorAnswer.{CursorAnswer}
-use Rattle.answers.specs.declared.SeekAnswer.{SeekAnswer}
-use Rattle.answers.specs.declared.SeekAnswer.TheVariants.{Found, End, Refused}
+use Rattle.answers.specs.declared.Stand.{Stand}
+use Rattle.answers.specs.declared.Stand.TheVariants.{Found, End}
 use Rattle.walk.specs.Walk.Spots.{Reading, check-reading, Stop, spots}
 use Rattle.walk.specs.Walk.Tours.{first_of, each_at}
 use Rattle.walk.specs.Reads.{Got, value, absent, Found as Sighted, next, Written, page, belongs}
@@ -49,21 +48,20 @@ use Rattle.walk.proofs.ReadsLaws.Pages.{paged-lost, pages-are as paged-are}
 use Rattle.walk.specs.Walk.{Spot, Walked, ended, lost}
 use Rattle.walk.specs.Reads.Seek.{lookup, points, is_from, from, seek_is, shown-shows}
 use Rattle.answers.specs.Quick.{cursor_of}
-use Rattle.answers.specs.Get.{got_told, get_answer}
-use Rattle.answers.specs.Seek.{refused_seek, seek_told as seek_by, seek_framed, seek_answer}
+use Rattle.answers.specs.Get.{Value, got_told, get_answer}
+use Rattle.answers.specs.Seek.{seek_told as seek_by, seek_framed, seek_answer}
 use Rattle.answers.specs.Seek.Hands.{spot_back}
-use Rattle.answers.specs.Next.{refused_next, next_told, next_framed, next_answer}
-use Rattle.answers.specs.declared.PageAnswer.{PageAnswer}
-use Rattle.answers.specs.declared.PageAnswer.TheVariants.{More, End as PageEnd, Refused as PageRefused}
+use Rattle.answers.specs.Next.{next_framed, next_answer}
+use Rattle.answers.specs.declared.Rest.{Rest}
+use Rattle.answers.specs.declared.Rest.TheVariants.{More}
 use Rattle.answers.specs.Page.{page_answer}
-use Rattle.answers.specs.declared.SheetAnswer.{SheetAnswer}
 use Rattle.answers.specs.Sheet.{prefix_long, prefix_last, listed_in, sheet_answer, sheet_leaves}
-use Rattle.theorems.specs.Paged.{PageCalls, last-page, page-then, calls-pages, pages-from}
+use Rattle.theorems.specs.Paged.{StandsAt, PageCalls, last-page, page-then, calls-pages, pages-from}
 use Rattle.theorems.specs.Read.{onward, get-answers, fits-frames, onward-are, prefixed, sheet_of, sheet-answers, sheet-records}
-use Rattle.theorems.specs.Told.{get_told, seek_told, page_told, sheet_told}
+use Rattle.theorems.specs.Told.{get_told, seek_told, count_told}
 use Rattle.theorems.specs.Exactly.Quick.{NextSays, next-1, next-4, next-11, next-10, next-found, next-end as next-end-0, PageSays, page-1, page-4, page-11, page-10, page-more as page-more-1, page-end as page-end-0}
 use Rattle.theorems.proofs.Exactly.Quick.{next-exactly, page-exactly}
-use Rattle.theorems.specs.Told.Laws.{not-zero, index-zero, page-more, page-end}
+use Rattle.theorems.specs.Told.Laws.{not-zero, count-zero, page-more, page-end}
 use Rattle.kanyorith.specs.Promises.{CheckIndex, value_left, Get, run_left, place_left, cursor_left, Sought, Seek, Next, page_cursor_left, Page, Sheet}
 
 -- check index accepts the index for the tray
@@ -72,7 +70,7 @@ pub record Accepted (tray index : List ℕ) : Type 0 where
   pub says : CheckIndex tray index 0 segments
 
 pub reading : {t x : List ℕ} → Accepted t x → Reading t x
-reading {t} {x} a = check-reading t x a.segments (index-zero (check_index_answer t x) a.says.answers)
+reading {t} {x} a = check-reading t x a.segments (count-zero (check_index_answer t x) a.says.answers)
 
 -- what get answers and leaves in the value: the value of the point with this key, or absent where there is none
 pub data Looked (t key was : List ℕ) : ℕ → ℕ → List ℕ → Type 0 where
@@ -94,7 +92,7 @@ looking (e ∷ es) key = split (InList (e ∷ es) key) (eqb e.key key) (λ y. in
     further n (not_in off) = not_in (λ d m z. ⊎_elim (λ q. n (ap (λ (r : Record). r.key) (sym q) ∙ z)) (λ w. off d w z) (Memᴰ.cases_cons m))
 
 got-looked : (t key was : List ℕ) {g : Got} → InList (points t) (be 8 key 0) g
-    → Looked t key was (get_told (got_told g).answer).number (get_told (got_told g).answer).figure (value_left (got_told g).answer (got_told g).value was)
+    → Looked t key was (get_told (got_told g)).number (get_told (got_told g)).figure (value_left (got_told g) was)
 unfolding get_told got_told value_left
 got-looked t key was (in_list e m z) = is-there e m z
 got-looked t key was (not_in off) = is-absent off
@@ -103,14 +101,14 @@ pub get-looks : {t x key was value : List ℕ} {n f : ℕ} → Accepted t x → 
 get-looks {t} {x} {key} {was} {value} {n} {f} a g =
     by (sym g.answers) (sym g.leaving)
   where
-    all : Looked t key was (get_told (get_answer t x key).answer).number (get_told (get_answer t x key).answer).figure
-        (value_left (get_answer t x key).answer (get_answer t x key).value was)
+    all : Looked t key was (get_told (get_answer t x key)).number (get_told (get_answer t x key)).figure
+        (value_left (get_answer t x key) was)
     all =
-        subst (λ (s : ValueAnswer). Looked t key was (get_told s.answer).number (get_told s.answer).figure (value_left s.answer s.value was))
+        subst (λ (s : Value). Looked t key was (get_told s).number (get_told s).figure (value_left s was))
         (sym (get-answers (reading a) key)) (got-looked t key was (looking (points t) (be 8 key 0)))
 
-    by : get_told (get_answer t x key).answer ≡ told n f → value_left (get_answer t x key).answer (get_answer t x key).value was ≡ value → Looked t key was n f value
-    by p q = subst (λ (v : List ℕ). Looked t key was n f v) q (subst (λ (w : Verdict). Looked t key was w.number w.figure (value_left (get_answer t x key).answer (get_answer t x key).value was)) p all)
+    by : get_told (get_answer t x key) ≡ told n f → value_left (get_answer t x key) was ≡ value → Looked t key was n f value
+    by p q = subst (λ (v : List ℕ). Looked t key was n f v) q (subst (λ (w : Verdict). Looked t key was w.number w.figure (value_left (get_answer t x key) was)) p all)
 
 -- a cursor goes through its numbers unchanged
 places-back : (ps : List Place) → map (λ (n : ℕ). record { 0 = n }) (numbers ps) ≡ ps
@@ -133,7 +131,7 @@ module _ {t x : List ℕ} (r : Reading t x) where
   -- seek's answer, by the visible stops from the key on
   sought-from : (key : List ℕ) → seek_answer t x key ≡ seek_by x (first_of found_at (from t x (be 8 key 0)) 0)
   unfolding seek_answer seek_framed
-  sought-from key = fits-frames r refused_seek (seek_framed t x (be 8 key 0)) ∙ ap (seek_by x) (seek_is r (be 8 key 0))
+  sought-from key = fits-frames r Err (seek_framed t x (be 8 key 0)) ∙ ap (seek_by x) (seek_is r (be 8 key 0))
 
   sees : (key : ℕ) (ps : List Stop) → from t x key ≡ ps → {run place n f run' place' : ℕ} {cursor cursor' : List ℕ}
       → Sought (seek_by x (first_of found_at ps 0)) run place cursor n f run' place' cursor' → Sights t key n f run' place'
@@ -150,7 +148,7 @@ pub seek-sees : {t x key cursor cursor' : List ℕ} {run place n f run' place' :
     → Sights t (be 8 key 0) n f run' place'
 seek-sees {t} {x} {key} {cursor} {cursor'} {run} {place} {n} {f} {run'} {place'} a s =
     sees (reading a) (be 8 key 0) (from t x (be 8 key 0)) refl
-    (subst (λ (w : CursorAnswer). Sought w run place cursor n f run' place' cursor') (sought-from (reading a) key) s.sought)
+    (subst (λ (w : Result Stand Refusal). Sought w run place cursor n f run' place' cursor') (sought-from (reading a) key) s.sought)
 
 -- two that see the same points see the same
 pub same-sights : {t u : List ℕ} {key n f r p m g r' p' : ℕ} → onward u key ≡ onward t key → Sights t key n f r p → Sights u key m g r' p'
@@ -176,40 +174,40 @@ module _ {t x : List ℕ} (r : Reading t x) where
   unfolding shown
   shown-belongs p m = ap (belongs (run_count t) x) (spot_back p.spot) ∙ stop-belongs r p (keep-mem (is_shown t) (spots t x) m).0
 
-  next-belongs : (c : Cursor) → belongs (run_count t) x (spot_of c) ≡ true → next_framed t x c ≡ next_told x c (next t x (spot_of c))
+  next-belongs : (c : Cursor) → belongs (run_count t) x (spot_of c) ≡ true → next_framed t x c ≡ seek_by x (next t x (spot_of c))
   unfolding next_framed
   next-belongs c b = rw b
 
   -- next's answer from a visible stop, by the visible stops after it
   next-from : (us : List Stop) (p : Stop) (qs : List Stop) → shown t x ≡ us ++ (p ∷ qs)
-      → next_answer t x (cursor_of p.spot) ≡ next_told x (cursor_of p.spot) (first_of found_at qs 0)
+      → next_answer t x (cursor_of p.spot) ≡ seek_by x (first_of found_at qs 0)
   unfolding next_answer
   next-from us p qs e =
-      fits-frames r (refused_next (cursor_of p.spot)) (next_framed t x (cursor_of p.spot))
+      fits-frames r Err (next_framed t x (cursor_of p.spot))
       ∙ next-belongs (cursor_of p.spot) (shown-belongs p (subst (Mem p) (sym e) (Memᴰ.append_right us here)))
-      ∙ ap (next_told x (cursor_of p.spot)) (ap (next t x) (spot_back p.spot) ∙ next-is r us p qs e)
+      ∙ ap (seek_by x) (ap (next t x) (spot_back p.spot) ∙ next-is r us p qs e)
 
   -- next's call there
   called : (us : List Stop) (p : Stop) (qs : List Stop) → shown t x ≡ us ++ (p ∷ qs) → {c c' : List ℕ} {run place n f run' place' : ℕ}
       → c ≡ cursor_numbers (cursor_of p.spot) → Next t x c run place n f run' place' c'
-      → Sought (next_told x (cursor_of p.spot) (first_of found_at qs 0)) run place c n f run' place' c'
+      → Sought (seek_by x (first_of found_at qs 0)) run place c n f run' place' c'
   called us p qs e {c} {c'} {run} {place} {n} {f} {run'} {place'} is s =
-      subst (λ (w : CursorAnswer). Sought w run place c n f run' place' c')
+      subst (λ (w : Result Stand Refusal). Sought w run place c n f run' place' c')
       (ap (λ (k : List ℕ). next_answer t x (cursor_in k)) is ∙ ap (next_answer t x) (cursor-back (cursor_of p.spot)) ∙ next-from us p qs e) s.sought
 
   -- an end where a record stands, or a record where none is left, is not told
-  ended-told : (c : Cursor) (qs : List Stop) → told 0 0 ≡ seek_told (next_told x c (first_of found_at qs 0)).answer → qs ≡ []
-  unfolding next_told first_of found_at seek_told
+  ended-told : (c : Cursor) (qs : List Stop) → told 0 0 ≡ seek_told (seek_by x (first_of found_at qs 0)) → qs ≡ []
+  unfolding seek_by first_of found_at seek_told
   ended-told c [] e = refl
   ended-told c (q ∷ qs) e = let z : ◌≡◌ {A = ℕ} 0 1 = ap (λ (v : Verdict). v.figure) e in never z
 
-  found-told : (c : Cursor) → told 0 1 ≡ seek_told (next_told x c (first_of {S = ℕ} found_at [] 0)).answer → {Q : Type 0} → Q
-  unfolding next_told first_of seek_told
+  found-told : (c : Cursor) → told 0 1 ≡ seek_told (seek_by x (first_of {S = ℕ} found_at [] 0)) → {Q : Type 0} → Q
+  unfolding seek_by first_of seek_told
   found-told c e = let z : ◌≡◌ {A = ℕ} 1 0 = ap (λ (v : Verdict). v.figure) e in never (sym z)
 
   steps-from : (us : List Stop) (p : Stop) (qs : List Stop) → shown t x ≡ us ++ (p ∷ qs) → {c : List ℕ} {es : List Record}
       → c ≡ cursor_numbers (cursor_of p.spot) → Steps t x c es → es ≡ map point_of qs
-  unfolding next_told first_of found_at run_left place_left cursor_left
+  unfolding seek_by first_of found_at run_left place_left cursor_left
   steps-from us p qs e is (no_more s) = sym (ap (map point_of) (ended-told (cursor_of p.spot) qs (called us p qs e is s).answers))
   steps-from us p [] e is (one_more s rest) = found-told (cursor_of p.spot) (called us p [] e is s).answers
   steps-from us p (q ∷ qs) e is (one_more s rest) =
@@ -239,7 +237,7 @@ pub steps-are : {t x key cursor cursor' : List ℕ} {run place run' place' : ℕ
     → Seek t x key cursor run place 0 1 run' place' cursor' → Steps t x cursor' es → record_at (run_bytes t run') place' ∷ es ≡ onward t (be 8 key 0)
 steps-are {t} {x} {key} {cursor} {cursor'} {run} {place} {run'} {place'} a s steps =
     steps-by (reading a) (be 8 key 0) (from t x (be 8 key 0)) refl
-    (subst (λ (w : CursorAnswer). Sought w run place cursor 0 1 run' place' cursor') (sought-from (reading a) key) s.sought) steps
+    (subst (λ (w : Result Stand Refusal). Sought w run place cursor 0 1 run' place' cursor') (sought-from (reading a) key) s.sought) steps
 
 -- calls of page from a cursor on, each into an output of its own, until one says the end: what they wrote, put together
 pub data Paged (t x : List ℕ) : List ℕ → List ℕ → Type 0 where
@@ -257,18 +255,16 @@ later : {t x : List ℕ} (out : List ℕ) {outs : ℕ → List ℕ} {i : ℕ} {c
 later out (last-page e) = last-page e
 later out (page-then e calls) = page-then e (later out calls)
 
--- the cursor of a page, of a seek or of a next that is not refused
-pub page_moved : (c : List ℕ) (a : PageAnswer) {k : Cursor} {f : ℕ} {c' : List ℕ} → told 0 f ≡ page_told a → c' ≡ page_cursor_left a k c → cursor_in c' ≡ k
-unfolding page_cursor_left page_told
-page_moved c More {k} t e = ap cursor_in e ∙ cursor-back k
-page_moved c PageEnd {k} t e = ap cursor_in e ∙ cursor-back k
-page_moved c (PageRefused r) t e = not-zero r t
+-- the cursor of a page that says there is more, and of a seek that is not refused
+page-moved : (c : List ℕ) {a : Result Rest Refusal} {k : Cursor} {c' : List ℕ} → a ≡ Ok (More k) → c' ≡ page_cursor_left a c → cursor_in c' ≡ k
+unfolding page_cursor_left
+page-moved c {k = k} e l = ap cursor_in (l ∙ ap (λ (b : Result Rest Refusal). page_cursor_left b c) e) ∙ cursor-back k
 
-pub seek-moved : (c : List ℕ) (a : SeekAnswer) {k : Cursor} {f : ℕ} {c' : List ℕ} → told 0 f ≡ seek_told a → c' ≡ cursor_left a k c → cursor_in c' ≡ k
-unfolding cursor_left seek_told
-seek-moved c (Found run place) {k} t e = ap cursor_in e ∙ cursor-back k
-seek-moved c End {k} t e = ap cursor_in e ∙ cursor-back k
-seek-moved c (Refused r) t e = not-zero r t
+seek-moved : (c : List ℕ) (a : Result Stand Refusal) {f : ℕ} {c' : List ℕ} → told 0 f ≡ seek_told a → c' ≡ cursor_left a c → StandsAt a (cursor_in c')
+unfolding cursor_left seek_told StandsAt
+seek-moved c (Ok (Found run place k)) t e = sym (ap cursor_in e ∙ cursor-back k)
+seek-moved c (Ok (End k)) t e = sym (ap cursor_in e ∙ cursor-back k)
+seek-moved c (Err r) t e = not-zero r t
 
 -- they are the calls that the definitions speak of
 to-calls : {t x c bytes : List ℕ} → Paged t x c bytes → (outs : ℕ → List ℕ) × PageCalls t x outs 0 (cursor_in c) bytes
@@ -276,22 +272,22 @@ to-calls {t} {x} {c} (last_one {out = out} p) =
     let q = p.paging in (
       (λ i. out),
       subst (PageCalls t x (λ i. out) 0 (cursor_in c)) (sym (ap₂ (λ (n : ℕ) (l : List ℕ). take (24 * n) l) q.counts q.leaving))
-          (last-page (page-end (page_answer t x (cursor_in c) out).answer q.answers)),
+          (last-page (page-end (page_answer t x (cursor_in c) out).rest q.answers).1),
     )
 to-calls {t} {x} {c} (then-more {out = out} {c' = c'} {bytes = bytes} p rest) =
     let q = p.paging in
-    let more = page-more (page_answer t x (cursor_in c) out).answer q.answers in
+    let more = page-more (page_answer t x (cursor_in c) out).rest q.answers in
     let on = to-calls rest in (
       before out on.0,
       subst (λ (l : List ℕ). PageCalls t x (before out on.0) 0 (cursor_in c) (l ++ bytes)) (sym (ap₂ (λ (n : ℕ) (l : List ℕ). take (24 * n) l) q.counts q.leaving))
-          (page-then more (subst (λ (k : Cursor). PageCalls t x (before out on.0) 1 k bytes) (page_moved c (page_answer t x (cursor_in c) out).answer q.answers q.cursor-left) (later out on.1))),
+          (page-then more.1 (subst (λ (k : Cursor). PageCalls t x (before out on.0) 1 k bytes) (page-moved c more.1 q.cursor-left) (later out on.1))),
     )
 
 pub pages-are : {t x key cursor cursor' bytes : List ℕ} {run place f run' place' : ℕ} → Accepted t x
     → Seek t x key cursor run place 0 f run' place' cursor' → Paged t x cursor' bytes → bytes ≡ listing (onward t (be 8 key 0))
 pages-are {t} {x} {key} {cursor} {cursor'} {bytes} a s pages =
     let calls = to-calls pages in
-    pages-from (reading a) key (subst (λ (k : Cursor). PageCalls t x calls.0 0 k bytes) (seek-moved cursor (seek_answer t x key).answer s.sought.answers s.sought.cursor-left) calls.1)
+    pages-from (reading a) key (cursor_in cursor') (seek-moved cursor (seek_answer t x key) s.sought.answers s.sought.cursor-left) calls.1
 
 -- next from any cursor that belongs, and page, are not lost
 module _ {t x : List ℕ} (r : Reading t x) where
@@ -351,11 +347,11 @@ pub data Listed (t prefix out : List ℕ) : ℕ → ℕ → List ℕ → Type 0 
 
 module _ {t x : List ℕ} (r : Reading t x) (prefix out : List ℕ) where
   -- sheet's answer with what it leaves
-  abbrev listed_by : SheetAnswer → Type 0
-  listed_by a = Listed t prefix out (sheet_told a).number (sheet_told a).figure (sheet_leaves t x prefix out a)
+  abbrev listed_by : Result ℕ Refusal → Type 0
+  listed_by a = Listed t prefix out (count_told a).number (count_told a).figure (sheet_leaves t x prefix out a)
 
   listed_in_lem : listed_by (listed_in (length out) (prefixed t prefix))
-  unfolding listed_in sheet_told sheet_leaves
+  unfolding listed_in count_told sheet_leaves
   listed_in_lem =
       split listed_by (leb (24 * length (prefixed t prefix)) (length out))
       (λ y. subst (λ (es : List Record). Listed t prefix out 0 (length (prefixed t prefix)) (put out 0 (listing es))) (sym (sheet-records r prefix)) (is-listed (leb-true _ _ y)))

@@ -26,7 +26,7 @@
 --     get-same, seek-same, next-same, pages-same, sheet-same
 --     same_end, never-too-long, too_long, reaches-one
 --     empty-adds-nothing, copy-adds-nothing
-use Rattle.std.specs.Prelude.{◌≡◌, refl, ◌↔◌, ℕ, suc, ◌+◌, ◌-◌, ◌*◌, ◌/◌, ◌≤◌, ◌<◌, true, get_or, drop}
+use Rattle.std.specs.Prelude.{◌≡◌, refl, ◌↔◌, ℕ, suc, ◌+◌, ◌-◌, ◌*◌, ◌/◌, ◌≤◌, ◌<◌, true, get_or, drop, Result}
 use Rattle.std.proofs.Math.Path.{sym, ap, ap₂}
 use Rattle.std.proofs.Common.{◌∙◌, subst, arith}
 use mathlib.Core.List.{List, ◌∷◌, map}
@@ -52,8 +52,9 @@ use Rattle.index.specs.Check.{check_index_answer}
 use Rattle.index.specs.Check.Theorems.{answers-segments}
 use Rattle.answers.specs.Next.{next_answer}
 use Rattle.answers.specs.Seek.{seek_answer}
-use Rattle.answers.specs.declared.CursorAnswer.{CursorAnswer}
-use Rattle.answers.specs.declared.ValueAnswer.{ValueAnswer}
+use Rattle.refusal.specs.declared.Refusal.{Refusal}
+use Rattle.answers.specs.declared.Stand.{Stand}
+use Rattle.answers.specs.declared.Rest.{Rest}
 use Rattle.walk.specs.Reads.Seek.{points, points-rise as rising-points}
 use Rattle.walk.specs.Reads.{belongs}
 use Rattle.walk.specs.Code.{spot_of}
@@ -61,13 +62,10 @@ use Rattle.walk.specs.Reads.Page.{listing}
 use Rattle.walk.proofs.ReadsLaws.Prefix.{sheet-begins}
 use Rattle.theorems.specs.Read.{onward, prefixed}
 use Rattle.theorems.specs.Unchanged.{get-unchanged, sheet-unchanged, sheet-leaves-unchanged}
-use Rattle.answers.specs.declared.SeekAnswer.{SeekAnswer}
-use Rattle.answers.specs.declared.GetAnswer.{GetAnswer}
-use Rattle.answers.specs.Get.{get_answer}
+use Rattle.answers.specs.Get.{Value, get_answer}
 use Rattle.build_spec.specs.Build.{build_answer, build_leaves, index_bytes}
 use Rattle.build_spec.proofs.Build.Theorems.{built-bound, built-count}
 use Rattle.build_spec.proofs.Build.Answers.{build-written, leaves-written, leaves-accepted}
-use Rattle.answers.specs.declared.PageAnswer.{PageAnswer}
 use Rattle.answers.specs.Page.{page_answer, page_leaves}
 use Rattle.answers.specs.Sheet.{sheet_answer, sheet_leaves}
 use Rattle.fold_spec.specs.Fold.{fold_size, fold_answer, fold_leaves}
@@ -79,8 +77,8 @@ use Rattle.fold_spec.specs.Fold.Nothing.{without_run, AddsNothing}
 use Rattle.fold_spec.proofs.Fold.Nothing.{empty-run, older-copy, same_bytes}
 use Rattle.fold_spec.proofs.Fold.Leaves.{leaves-written as fold-leaves-written}
 use Rattle.kanyorith.specs.Promises.{CheckTray, CheckIndex, Build, value_left, Get, run_left, place_left, cursor_left, Sought, Seek, Next, page_cursor_left, Page, Sheet, Fold}
-use Rattle.theorems.specs.Told.Laws.{index-zero, build-zero, build-above, get-above, seek-above, page-above, sheet-above, fold-zero, fold-above}
-use Rattle.theorems.specs.Told.{index_told, get_told, sheet_told, fold_told}
+use Rattle.theorems.specs.Told.Laws.{count-zero, count-above, get-above, seek-above, page-above}
+use Rattle.theorems.specs.Told.{count_told, get_told}
 use Rattle.kanyorith.specs.Reads.{Accepted, reading, Looked, get-looks, Sights, seek-sees, same-sights, Steps, steps-are, Paged, pages-are, Onward, pages-onward, next-never-lost, page-never-lost, Listed, sheet-lists}
 use Rattle.kanyorith.specs.Handed.{seek-belongs, next-belongs, page-belongs}
 use Rattle.kanyorith.specs.Folds.{Folds, folds-calls, sound-tray, Unchanged, unchanged, not-12, is-12, whole-bounds}
@@ -116,7 +114,7 @@ pub record Same (n f run place : ℕ) (c : List ℕ) (m g run' place' : ℕ) (c'
   pub at_place : place ≡ place'
   pub cursor : c ≡ c'
 
-one-sought : {a : CursorAnswer} {run place n f r p m g r' p' : ℕ} {c k k' : List ℕ} → Sought a run place c n f r p k → Sought a run place c m g r' p' k'
+one-sought : {a : Result Stand Refusal} {run place n f r p m g r' p' : ℕ} {c k k' : List ℕ} → Sought a run place c n f r p k → Sought a run place c m g r' p' k'
     → Same n f r p k m g r' p' k'
 one-sought p q =
     let e = one_told p.answers q.answers in
@@ -196,31 +194,31 @@ fold-exactly {t} {out} {a = a} {b} p m g = says-by p.answers (fold-table t a b (
 
 pub build-untouched : {t out left : List ℕ} {d n f : ℕ} → Build t d out n f left → 0 < n → left ≡ out
 unfolding build_leaves
-build-untouched {t} {out} {d = d} p l = p.leaving ∙ ap (build_leaves t d out) (build-above (build_answer t d (length out)) p.answers l).1
+build-untouched {t} {out} {d = d} p l = p.leaving ∙ ap (build_leaves t d out) (count-above (build_answer t d (length out)) p.answers l).1
 
 pub get-untouched : {t x key was value : List ℕ} {n f : ℕ} → Get t x key was n f value → 0 < n → value ≡ was
 unfolding value_left
 get-untouched {t} {x} {key} {was} p l =
-    p.leaving ∙ ap (λ (a : GetAnswer). value_left a (get_answer t x key).value was) (get-above (get_answer t x key).answer p.answers l).1
+    p.leaving ∙ ap (λ (a : Value). value_left a was) (get-above (get_answer t x key) p.answers l).1
 
 pub seek-untouched : {t x key c k : List ℕ} {run place n f r p : ℕ} → Seek t x key c run place n f r p k → 0 < n → (r ≡ run) × (p ≡ place) × (k ≡ c)
 unfolding run_left place_left cursor_left
 seek-untouched {t} {x} {key} {c} {run = run} {place} p l =
     let a = seek_answer t x key in
-    let e = (seek-above a.answer p.sought.answers l).1 in (
-      p.sought.run-left ∙ ap (λ (w : SeekAnswer). run_left w run) e,
-      p.sought.place-left ∙ ap (λ (w : SeekAnswer). place_left w place) e,
-      p.sought.cursor-left ∙ ap (λ (w : SeekAnswer). cursor_left w a.cursor c) e,
+    let e = (seek-above a p.sought.answers l).1 in (
+      p.sought.run-left ∙ ap (λ (w : Result Stand Refusal). run_left w run) e,
+      p.sought.place-left ∙ ap (λ (w : Result Stand Refusal). place_left w place) e,
+      p.sought.cursor-left ∙ ap (λ (w : Result Stand Refusal). cursor_left w c) e,
     )
 
 pub next-untouched : {t x c k : List ℕ} {run place n f r p : ℕ} → Next t x c run place n f r p k → 0 < n → (r ≡ run) × (p ≡ place) × (k ≡ c)
 unfolding run_left place_left cursor_left
 next-untouched {t} {x} {c} {run = run} {place} p l =
     let a = next_answer t x (cursor_in c) in
-    let e = (seek-above a.answer p.sought.answers l).1 in (
-      p.sought.run-left ∙ ap (λ (w : SeekAnswer). run_left w run) e,
-      p.sought.place-left ∙ ap (λ (w : SeekAnswer). place_left w place) e,
-      p.sought.cursor-left ∙ ap (λ (w : SeekAnswer). cursor_left w a.cursor c) e,
+    let e = (seek-above a p.sought.answers l).1 in (
+      p.sought.run-left ∙ ap (λ (w : Result Stand Refusal). run_left w run) e,
+      p.sought.place-left ∙ ap (λ (w : Result Stand Refusal). place_left w place) e,
+      p.sought.cursor-left ∙ ap (λ (w : Result Stand Refusal). cursor_left w c) e,
     )
 
 -- a refused page hands back the cursor that it was given; refused by 1, 4 or 11 it has written nothing, and by 10 it keeps what it wrote (page-behind)
@@ -228,7 +226,7 @@ pub page-untouched : {t x c out k left : List ℕ} {n f i : ℕ} → Page t x c 
 unfolding page_cursor_left
 page-untouched {t} {x} {c} {out} p l =
     let a = page_answer t x (cursor_in c) out in
-    p.paging.cursor-left ∙ ap (λ (w : PageAnswer). page_cursor_left w a.cursor c) (page-above a.answer p.paging.answers l).1
+    p.paging.cursor-left ∙ ap (λ (w : Result Rest Refusal). page_cursor_left w c) (page-above a.rest p.paging.answers l).1
 
 pub page-unwritten : {t x c out k left : List ℕ} {n f i : ℕ} → Page t x c out n f i k left → 0 < n → (n ≡ 10 → ⊥) → (i ≡ 0) × (left ≡ out)
 page-unwritten {t} {x} {c} {out} {n = n} {f} p l off =
@@ -238,11 +236,11 @@ page-unwritten {t} {x} {c} {out} {n = n} {f} p l off =
 pub sheet-untouched : {t x prefix out left : List ℕ} {n f : ℕ} → Sheet t x prefix out n f left → 0 < n → left ≡ out
 unfolding sheet_leaves
 sheet-untouched {t} {x} {prefix} {out} p l =
-    p.leaving ∙ ap (sheet_leaves t x prefix out) (sheet-above (sheet_answer t x prefix (length out)) p.answers l).1
+    p.leaving ∙ ap (sheet_leaves t x prefix out) (count-above (sheet_answer t x prefix (length out)) p.answers l).1
 
 pub fold-untouched : {t out left : List ℕ} {a b n f : ℕ} → Fold t a b out n f left → 0 < n → left ≡ out
 unfolding fold_leaves
-fold-untouched {t} {out} {a = a} {b} p l = p.leaving ∙ ap (fold_leaves t a b out) (fold-above (fold_answer t a b (length out)) p.answers l).1
+fold-untouched {t} {out} {a = a} {b} p l = p.leaving ∙ ap (fold_leaves t a b out) (count-above (fold_answer t a b (length out)) p.answers l).1
 
 -- DEMAND 1: NO CALL TOUCHES OUTPUT PAST WHAT IT WRITES
 
@@ -253,12 +251,12 @@ pub record Behind (n : ℕ) (out left : List ℕ) : Type 0 where
 
 pub build-behind : {t out left : List ℕ} {d n : ℕ} → Build t d out 0 n left → Behind n out left
 build-behind {t} {out} {d = d} {n} p =
-    let w = leaves-written t d out n (build-zero (build_answer t d (length out)) p.answers) in
+    let w = leaves-written t d out n (count-zero (build_answer t d (length out)) p.answers) in
     record { long = ap length p.leaving ∙ w.long; same = ap (drop n) p.leaving ∙ w.behind }
 
 pub fold-behind : {t out left : List ℕ} {a b n : ℕ} → Fold t a b out 0 n left → Behind n out left
 fold-behind {t} {out} {a = a} {b} {n} p =
-    let e = fold-zero (fold_answer t a b (length out)) p.answers in
+    let e = count-zero (fold_answer t a b (length out)) p.answers in
     let w = fold-leaves-written t a b out n e in
     let is = p.leaving ∙ ap (fold_leaves t a b out) e in
     record { long = ap length is ∙ w.same; same = ap (drop n) is ∙ w.behind }
@@ -296,15 +294,15 @@ page-hands l p = page-belongs l p
 pub accepted-exactly : {t x : List ℕ} {n f : ℕ} → CheckIndex t x n f
     → (n ≡ 0) ↔ (Sound t × IndexFramed (run_count t) x × Follows (runs_of t) (segments_of (run_count t) x))
 accepted-exactly {t} {x} {n} {f} p = (
-  λ z. (let e = subst (λ (m : ℕ). told m f ≡ index_told (check_index_answer t x)) z p.answers in
-      let w = (answers-segments t x f).0 (index-zero (check_index_answer t x) e) in (w.0, w.1, w.2)),
+  λ z. (let e = subst (λ (m : ℕ). told m f ≡ count_told (check_index_answer t x)) z p.answers in
+      let w = (answers-segments t x f).0 (count-zero (check_index_answer t x) e) in (w.0, w.1, w.2)),
   λ w. (one_told p.answers ((index-exactly t x 0 (segment_count x)).1 (index-0 w.0 w.1 w.2))).0,
 )
 
 -- what build writes is accepted for its tray
 pub built-is-accepted : {t out left : List ℕ} {d n : ℕ} → Bytes t → Build t d out 0 n left → Accepted t (take n left)
 built-is-accepted {t} {out} {left} {d} {n} bytes p =
-    let e = build-zero (build_answer t d (length out)) p.answers in
+    let e = count-zero (build_answer t d (length out)) p.answers in
     let w = leaves-accepted t d out n (take n left) bytes e (ap (take n) p.leaving) in
     let s = ((build-written t d (length out) n).0 e).0.sound in
     record { segments = segment_count (take n left); says = record { answers = (index-exactly t (take n left) 0 (segment_count (take n left))).1 (index-0 s w.0 w.1) } }
@@ -312,7 +310,7 @@ built-is-accepted {t} {out} {left} {d} {n} bytes p =
 -- half of its segments, rounded down, times D + 1, is at most the records
 pub built-half : {t out left : List ℕ} {d n : ℕ} → Bytes t → Build t d out 0 n left → segment_count (take n left) / 2 * (d + 1) ≤ records_before t (run_count t)
 built-half {t} {out} {left} {d} {n} bytes p =
-    let e = build-zero (build_answer t d (length out)) p.answers in
+    let e = count-zero (build_answer t d (length out)) p.answers in
     let b = ((build-written t d (length out) n).0 e).0 in
     let is : take n left ≡ index_bytes d (runs_of t) = ap (take n) p.leaving ∙ (leaves-written t d out n e).front in
     subst (λ (s : ℕ). s / 2 * (d + 1) ≤ records_before t (run_count t)) (sym (ap segment_count is ∙ built-count b.sound b.size bytes)) (built-bound b.sound b.size)
@@ -392,8 +390,8 @@ module _ {t x u y : List ℕ} (w : Unchanged t x u y) where
       subst-get : get_answer u y key ≡ get_answer t x key → Get u y key was m g value' → Get t x key was m g value'
       subst-get e q =
           record {
-            answers = q.answers ∙ ap (λ (a : ValueAnswer). get_told a.answer) e;
-            leaving = q.leaving ∙ ap (λ (a : ValueAnswer). value_left a.answer a.value was) e;
+            answers = q.answers ∙ ap get_told e;
+            leaving = q.leaving ∙ ap (λ (a : Value). value_left a was) e;
           }
 
   -- seek finds the same key and value, or the end
@@ -411,7 +409,7 @@ module _ {t x u y : List ℕ} (w : Unchanged t x u y) where
 
   pub sheet-same : {prefix out left left' : List ℕ} {n f m g : ℕ} → Sheet t x prefix out n f left → Sheet u y prefix out m g left' → (n ≡ m) × (f ≡ g) × (left ≡ left')
   sheet-same {prefix} {out} p q =
-      let e = one_told p.answers (q.answers ∙ ap sheet_told (sheet-unchanged (unchanged w) prefix (length out))) in
+      let e = one_told p.answers (q.answers ∙ ap count_told (sheet-unchanged (unchanged w) prefix (length out))) in
       (e.0, e.1, p.leaving ∙ sym (q.leaving ∙ sheet-leaves-unchanged (unchanged w) prefix out))
 
 -- DEMAND 3: CHAINS TO ONE RUN
@@ -442,13 +440,13 @@ module _ {t : List ℕ} {k : ℕ} (bytes : Bytes t) (sound : CheckTray t 0 k) wh
 
   -- given room, folding everything at once is refused for its length alone, and else makes one run
   pub reaches-one : {out left : List ℕ} {n f : ℕ} → Fold t 0 (run_count t - 1) out n f left → whole_size t ≤ length out → (n ≡ 12 → ⊥) → (n ≡ 0) × (run_count (take f left) ≡ 1)
-  unfolding fold_told
+  unfolding count_told
   reaches-one {out} {left} {n} {f} p room off =
       let s = sound-tray sound in
       let b = run_count t - 1 in
       let short = not-12 s (whole-bounds s) p off in
       let w = one-whole s bytes (length out) short room in
-      let e = one_told p.answers (sym (ap fold_told w.0)) in
+      let e = one_told p.answers (sym (ap count_told w.0)) in
       let is : take f left ≡ whole_bytes t =
       ap₂ (λ (i : ℕ) (l : List ℕ). take i l) e.1 (p.leaving ∙ ap (fold_leaves t 0 b out) w.0) ∙ (fold-leaves-written t 0 b out (whole_size t) w.0).front in
       (e.0, ap run_count is ∙ sym (length-runs_of (whole_bytes t)) ∙ ap length w.1)
@@ -465,7 +463,7 @@ pub record Adds-nothing (t : List ℕ) (a i : ℕ) : Type 0 where
   pub reads : points (without_run i t) ≡ points t
 
 adds : {t : List ℕ} {a i : ℕ} → AddsNothing t a i → Adds-nothing t a i
-unfolding fold_told
+unfolding count_told
 adds {t} {a} {i} w =
     record {
       sound = w.removed.sound;
@@ -473,7 +471,7 @@ adds {t} {a} {i} w =
           let size : fold_size a (suc a) (runs_of t) ≡ length (without_run i t) = sym (length-fold_bytes a (suc a) (runs_of t)) ∙ ap length w.folds in
           let is = (fold-written t a (suc a) (length out) (fold_size a (suc a) (runs_of t))).1
           (w.foldable.sound, w.foldable.bounds, w.foldable.short, subst (λ (k : ℕ). k ≤ length out) (sym size) room, refl) in
-          let e = one_told p.answers (sym (ap fold_told is)) in (
+          let e = one_told p.answers (sym (ap count_told is)) in (
             e.0,
             ap₂ (λ (j : ℕ) (l : List ℕ). take j l) e.1 (p.leaving ∙ ap (fold_leaves t a (suc a) out) is)
                 ∙ (fold-leaves-written t a (suc a) out (fold_size a (suc a) (runs_of t)) is).front ∙ w.folds,

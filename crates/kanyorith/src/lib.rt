@@ -9,62 +9,39 @@ mod told;
 ghost use Rattle.kanyorith.specs.Promises.{CheckTray, CheckIndex, Build, Get, Sought, Seek, Next, Page, Sheet, Fold};
 
 use crate::cursor::{cursor_in, put_cursor};
-use crate::told::{narrow, refuse, refuse_own};
-use answers::{CursorAnswer, GetAnswer, PageAnswer, SeekAnswer, SheetAnswer};
+use crate::told::{count, count_own, narrow, refuse};
+use answers::{Rest, Stand};
 use build::build;
-use build_spec::BuildAnswer;
 use fold::fold;
-use fold_spec::FoldAnswer;
-use index::IndexAnswer;
 use index_check::check_index;
 use next::calls::next;
 use page::page;
+use refusal::Refusal;
 use seek::get::get;
 use seek::seek;
 use sheet::sheet;
-use tray::{RunNo, TrayAnswer};
+use tray::RunNo;
 use tray_check::check_tray;
 
 // Check tray: 0 and the records, or 1, 3 or 2.
 pub fn kanyorith_check_tray(tray: &[u8], figure: &mut u64) -> u32
     ensures { CheckTray tray.now result figure.new }
 {
-    let a = check_tray(tray);
-    match a {
-        TrayAnswer::Records(n) => {
-            *figure = n;
-            0
-        }
-        TrayAnswer::Refused(r) => refuse(r, figure),
-    }
+    count(check_tray(tray), figure)
 }
 
 // Check index: 0 and the segments, or 1, 3 or 2, 4, 5.
 pub fn kanyorith_check_index(tray: &[u8], index: &[u8], figure: &mut u64) -> u32
     ensures { CheckIndex tray.now index.now result figure.new }
 {
-    let a = check_index(tray, index);
-    match a {
-        IndexAnswer::Segments(n) => {
-            *figure = n;
-            0
-        }
-        IndexAnswer::Refused(r) => refuse(r, figure),
-    }
+    count(check_index(tray, index), figure)
 }
 
 // Build: 0 and the bytes written, or 1, 6, 3 or 2, 7.
 pub fn kanyorith_build(tray: &[u8], d: u64, out: &mut [u8], figure: &mut u64) -> u32
     ensures { Build tray.now d out.old result figure.new out.new }
 {
-    let a = build(tray, narrow(d), out);
-    match a {
-        BuildAnswer::Written(n) => {
-            *figure = n;
-            0
-        }
-        BuildAnswer::Refused(r) => refuse_own(r, 6, d, figure),
-    }
+    count_own(build(tray, narrow(d), out), 6, d, figure)
 }
 
 // Get: 0 and 1 with the value, or 0 and 0 where the key is absent, or 1, 4, 10.
@@ -77,27 +54,25 @@ pub fn kanyorith_get(
 ) -> u32
     ensures { Get tray.now index.now key.now value.old result figure.new value.new }
 {
-    let g = get(tray, index, key);
-    let a = g.answer;
-    match a {
-        GetAnswer::Found => {
-            let v = g.value;
+    match get(tray, index, key) {
+        Ok(Some(v)) => {
             *value = v;
             *figure = 1;
             0
         }
-        GetAnswer::Absent => {
+        Ok(None) => {
             *figure = 0;
             0
         }
-        GetAnswer::Refused(r) => refuse(r, figure),
+        Err(r) => refuse(r, figure),
     }
 }
 
 // An answer of seek or next handed over: 0 and 1 with run, place and cursor, or 0 and 0 with the cursor of the end, or its refusal, which leaves
 // them as they were.
+#[inline(always)]
 fn hand_over(
-    s: CursorAnswer,
+    s: Result<Stand, Refusal>,
     run: &mut u8,
     place: &mut u16,
     cursor: &mut [u16; 66],
@@ -105,21 +80,20 @@ fn hand_over(
 ) -> u32
     ensures { Sought s run.old place.old cursor.old result figure.new run.new place.new cursor.new }
 {
-    let a = s.answer;
-    match a {
-        SeekAnswer::Found(n, p) => {
+    match s {
+        Ok(Stand::Found(n, p, c)) => {
             *run = n.0;
             *place = p.0;
             *figure = 1;
-            put_cursor(s.cursor, cursor);
+            put_cursor(c, cursor);
             0
         }
-        SeekAnswer::End => {
+        Ok(Stand::End(c)) => {
             *figure = 0;
-            put_cursor(s.cursor, cursor);
+            put_cursor(c, cursor);
             0
         }
-        SeekAnswer::Refused(r) => refuse(r, figure),
+        Err(r) => refuse(r, figure),
     }
 }
 
@@ -167,21 +141,19 @@ pub fn kanyorith_page(
 {
     let from = cursor_in(cursor);
     let p = page(tray, index, from, out);
-    let n = p.count;
-    *count = n as u64;
-    let a = p.answer;
-    match a {
-        PageAnswer::More => {
+    *count = p.count as u64;
+    match p.rest {
+        Ok(Rest::More(c)) => {
             *figure = 1;
-            put_cursor(p.cursor, cursor);
+            put_cursor(c, cursor);
             0
         }
-        PageAnswer::End => {
+        Ok(Rest::End(c)) => {
             *figure = 0;
-            put_cursor(p.cursor, cursor);
+            put_cursor(c, cursor);
             0
         }
-        PageAnswer::Refused(r) => refuse(r, figure),
+        Err(r) => refuse(r, figure),
     }
 }
 
@@ -195,26 +167,13 @@ pub fn kanyorith_sheet(
 ) -> u32
     ensures { Sheet tray.now index.now prefix.now out.old result figure.new out.new }
 {
-    let a = sheet(tray, index, prefix, out);
-    match a {
-        SheetAnswer::Listed(n) => {
-            *figure = n;
-            0
-        }
-        SheetAnswer::Refused(r) => refuse(r, figure),
-    }
+    count(sheet(tray, index, prefix, out), figure)
 }
 
 // Fold: 0 and the bytes written, or 1, 8, 3 or 2, 12, 7.
 pub fn kanyorith_fold(tray: &[u8], a: u64, b: u64, out: &mut [u8], figure: &mut u64) -> u32
     ensures { Fold tray.now a b out.old result figure.new out.new }
 {
-    let x = fold(tray, RunNo(narrow(a)), RunNo(narrow(b)), out);
-    match x {
-        FoldAnswer::Written(n) => {
-            *figure = n;
-            0
-        }
-        FoldAnswer::Refused(r) => refuse_own(r, 8, b, figure),
-    }
+    let folded = fold(tray, RunNo(narrow(a)), RunNo(narrow(b)), out);
+    count_own(folded, 8, b, figure)
 }

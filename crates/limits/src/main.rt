@@ -27,13 +27,10 @@ const INDEX: [u8; 50] = [
 // Runs without records: 1 to 63.
 fn runs() {
     let mut t = [0u8; 132];
-    tell_tray(0, &t[..4]);
-    t[0] = 1;
-    tell_tray(1, &t[..6]);
-    t[0] = 63;
-    tell_tray(63, &t[..130]);
-    t[0] = 64;
-    tell_tray(64, &t);
+    for (runs, size) in [(0u8, 4), (1, 6), (63, 130), (64, 132)] {
+        t[0] = runs;
+        tell_tray(u64::from(runs), &t[..size]);
+    }
 }
 
 // Records of a run: up to 4,096. The second tray has 4,097.
@@ -45,38 +42,25 @@ fn counts(most: &mut [u8; 102406], over: &mut [u8; 102431]) {
     tell_tray(1, over);
 }
 
-fn size(t: &[u8], d: u64) {
-    let mut out = [170u8; 148];
-    tell_build(t, d, &mut out);
-}
-
 // The size of a segment: H to 128, whatever a caller asks for.
 fn sizes(t: &[u8]) {
-    size(t, 0);
-    size(t, 1);
-    size(t, 2);
-    size(t, 128);
-    size(t, 129);
-    size(t, 255);
-    size(t, 256);
-    size(t, 258);
-    size(t, 18446744073709551615);
+    for d in [0, 1, 2, 128, 129, 255, 256, 258, 18446744073709551615] {
+        let mut out = [170u8; 148];
+        tell_build(t, d, &mut out);
+    }
 }
 
 // Output one byte short, and exact.
 fn rooms(t: &[u8], x: &[u8]) {
-    let mut a = [170u8; 49];
-    tell_build(t, 2, &mut a);
-    let mut b = [170u8; 50];
-    tell_build(t, 2, &mut b);
-    let mut c = [170u8; 47];
-    tell_sheet(t, x, b"\x00\xfe", &mut c);
-    let mut d = [170u8; 48];
-    tell_sheet(t, x, b"\x00\xfe", &mut d);
-    let mut e = [170u8; 105];
-    tell_fold(t, 0, 1, &mut e);
-    let mut f = [170u8; 106];
-    tell_fold(t, 0, 1, &mut f);
+    for room in [49, 50] {
+        tell_build(t, 2, &mut [170u8; 50][..room]);
+    }
+    for room in [47, 48] {
+        tell_sheet(t, x, b"\x00\xfe", &mut [170u8; 48][..room]);
+    }
+    for room in [105, 106] {
+        tell_fold(t, 0, 1, &mut [170u8; 106][..room]);
+    }
 }
 
 fn prefix(t: &[u8], x: &[u8], p: &[u8]) {
@@ -86,27 +70,32 @@ fn prefix(t: &[u8], x: &[u8], p: &[u8]) {
 
 // Prefixes: 1 to 8 bytes, the last one below 255. The length is judged first.
 fn prefixes(t: &[u8], x: &[u8]) {
-    prefix(t, x, b"");
-    prefix(t, x, b"\x00\xfe");
-    prefix(t, x, b"\x00\xff");
-    prefix(t, x, b"\x00\xfe\x00\x00\x00\x00\x00\x03");
-    prefix(t, x, b"\x00\xfe\x00\x00\x00\x00\x00\xff");
-    prefix(t, x, b"\x00\xfe\x00\x00\x00\x00\x00\x03\xff");
-}
-
-fn fold_of(t: &[u8], a: u64, b: u64) {
-    let mut out = [170u8; 133];
-    tell_fold(t, a, b, &mut out);
+    let all: [&[u8]; 6] = [
+        b"",
+        b"\x00\xfe",
+        b"\x00\xff",
+        b"\x00\xfe\x00\x00\x00\x00\x00\x03",
+        b"\x00\xfe\x00\x00\x00\x00\x00\xff",
+        b"\x00\xfe\x00\x00\x00\x00\x00\x03\xff",
+    ];
+    for p in all {
+        prefix(t, x, p);
+    }
 }
 
 // Bounds of a fold: a at most b, b below H.
 fn bounds(t: &[u8]) {
-    fold_of(t, 0, 0);
-    fold_of(t, 1, 0);
-    fold_of(t, 0, 2);
-    fold_of(t, 256, 1);
-    fold_of(t, 0, 256);
-    fold_of(t, 0, 18446744073709551615);
+    for (a, b) in [
+        (0, 0),
+        (1, 0),
+        (0, 2),
+        (256, 1),
+        (0, 256),
+        (0, 18446744073709551615),
+    ] {
+        let mut out = [170u8; 133];
+        tell_fold(t, a, b, &mut out);
+    }
 }
 
 // A fold of two runs of 4,096 records. The keys of the second one count up from the first given.
@@ -136,23 +125,27 @@ fn next_at(t: &[u8], x: &[u8], segment: u16, selector: u16, run: usize, place: u
     cursor[1] = segment;
     cursor[2] = selector;
     cursor[run + 3] = place;
-    tell_next(t, x, segment as u64, selector as u64, &mut cursor);
+    tell_next(t, x, u64::from(segment), u64::from(selector), &mut cursor);
     more(run as u64);
-    more(place as u64);
+    more(u64::from(place));
 }
 
 // Cursors: the end and a record, and what is beside them.
 fn cursors(t: &[u8], x: &[u8]) {
-    next_at(t, x, 3, 0, 0, 0);
-    next_at(t, x, 3, 1, 0, 0);
-    next_at(t, x, 3, 0, 0, 1);
-    next_at(t, x, 4, 0, 0, 0);
-    next_at(t, x, 0, 0, 0, 0);
-    next_at(t, x, 0, 2, 0, 0);
-    next_at(t, x, 0, 256, 0, 0);
-    next_at(t, x, 0, 0, 0, 1);
-    next_at(t, x, 0, 0, 2, 1);
-    next_at(t, x, 0, 0, 62, 1);
+    for (segment, selector, place) in [
+        (3, 0, 0),
+        (3, 1, 0),
+        (3, 0, 1),
+        (4, 0, 0),
+        (0, 0, 0),
+        (0, 2, 0),
+        (0, 256, 0),
+    ] {
+        next_at(t, x, segment, selector, 0, place);
+    }
+    for run in [0, 2, 62] {
+        next_at(t, x, 0, 0, run, 1);
+    }
 }
 
 // A page of one record.
@@ -175,10 +168,9 @@ fn pages(t: &[u8], x: &[u8]) {
     tell_page(t, x, &mut cursor, &mut none);
     let mut short = [170u8; 23];
     tell_page(t, x, &mut cursor, &mut short);
-    page_one(t, x, &mut cursor);
-    page_one(t, x, &mut cursor);
-    page_one(t, x, &mut cursor);
-    page_one(t, x, &mut cursor);
+    for _ in 0..4 {
+        page_one(t, x, &mut cursor);
+    }
 }
 
 // Heads without segments: the first says none, the second 4,294,967,295.

@@ -1,19 +1,14 @@
 // Trays filled by number: live records whose keys count up, with a value that ends as its key does.
 ghost use Rattle.std.specs.Prelude.{◌≡◌, ◌<◌, ◌≤◌, length};
 
-// The last byte of a number.
-fn low(n: u64) -> u8 {
-    (n % 256) as u8
-}
+use number::BigEndian;
 
 // A record with its key. What is not stored here is zero in a tray that begins as zeros.
 fn fill_record(bytes: &mut [u8], key: u64)
     requires { length bytes.old ≡ 25 }
 {
-    bytes[5] = low(key / 65536);
-    bytes[6] = low(key / 256);
-    bytes[7] = low(key);
-    bytes[24] = low(key);
+    key.write(bytes, 0);
+    bytes[24] = (key % 256) as u8;
 }
 
 // A record at each 25 bytes from a place on, the keys counted up from the first.
@@ -21,13 +16,8 @@ pub fn fill_records(tray: &mut [u8], from: usize, first: u64)
     requires from_in_bounds { from ≤ length tray.old }
     requires first_bound { first ≤ 65535 }
 {
-    let mut key = first;
-    let mut at = from;
-    while 25 <= tray.len() - at {
-        let e = at + 25;
-        fill_record(&mut tray[at..e], key);
-        key += 1;
-        at = e;
+    for (i, record) in tray[from..].chunks_exact_mut(25).enumerate() {
+        fill_record(record, first + i as u64);
     }
 }
 
@@ -38,10 +28,8 @@ fn fill_head(tray: &mut [u8], runs: u8, records: usize)
     requires records_bound { records ≤ 130 }
 {
     tray[0] = runs;
-    let mut at: usize = 4;
-    while at < records {
+    for at in (4..records).step_by(2) {
         tray[at] = 16;
-        at += 2;
     }
 }
 
@@ -57,13 +45,5 @@ pub fn fill_tray(tray: &mut [u8], runs: u8, records: usize)
 
 // How many bytes of an output are another than 170, which all of them are before a call.
 pub fn changed(out: &[u8]) -> usize {
-    let mut n: usize = 0;
-    let mut i: usize = 0;
-    while i < out.len() {
-        if out[i] != 170 {
-            n += 1;
-        }
-        i += 1;
-    }
-    n
+    out.iter().filter(|b| **b != 170).count()
 }

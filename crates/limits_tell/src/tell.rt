@@ -4,7 +4,6 @@ use kanyorith::{
     kanyorith_build, kanyorith_check_index, kanyorith_check_tray, kanyorith_fold, kanyorith_get,
     kanyorith_next, kanyorith_page, kanyorith_seek, kanyorith_sheet,
 };
-use number::{u64_of_u8, u64_of_u16};
 
 // One number more in a line.
 pub fn more(n: u64) {
@@ -19,22 +18,19 @@ fn say(name: &[u8], a: u64, b: u64, number: u32, figure: u64) {
     more(a);
     more(b);
     io::write_all(1, b":");
-    more(number as u64);
+    more(u64::from(number));
     more(figure);
 }
 
 // The last byte, or 0 where there is none.
 fn last(bytes: &[u8]) -> u64 {
-    if bytes.len() == 0 {
-        return 0;
-    }
-    u64_of_u8(bytes[bytes.len() - 1])
+    bytes.last().map_or(0, |b| u64::from(*b))
 }
 
 // The segment and the selector where a cursor stands.
 fn stand(cursor: &[u16; 66]) {
-    more(u64_of_u16(cursor[0]) * 65536 + u64_of_u16(cursor[1]));
-    more(u64_of_u16(cursor[2]));
+    more(u64::from(cursor[0]) * 65536 + u64::from(cursor[1]));
+    more(u64::from(cursor[2]));
 }
 
 // Check tray: the runs, the bytes.
@@ -97,11 +93,11 @@ pub fn tell_get(tray: &[u8], index: &[u8], key: &[u8; 8]) {
     say(
         b"get, index bytes and last of key",
         index.len() as u64,
-        u64_of_u8(key[7]),
+        u64::from(key[7]),
         n,
         figure,
     );
-    more(u64_of_u8(value[15]));
+    more(u64::from(value[15]));
 }
 
 // Seek: the same; run, place, and where the cursor stands.
@@ -122,12 +118,12 @@ pub fn tell_seek(tray: &[u8], index: &[u8], key: &[u8; 8]) {
     say(
         b"seek, index bytes and last of key",
         index.len() as u64,
-        u64_of_u8(key[7]),
+        u64::from(key[7]),
         n,
         figure,
     );
-    more(u64_of_u8(run));
-    more(u64_of_u16(place));
+    more(u64::from(run));
+    more(u64::from(place));
     stand(&cursor);
 }
 

@@ -1,12 +1,12 @@
 -- A page as the code hands it over.
 pub mod Code
-use Rattle.std.specs.Prelude.{◌≡◌, ℕ, List}
+use Rattle.std.specs.Prelude.{ℕ, List, Option, Some, None, Result, Ok, Err}
 use Rattle.walk.specs.Walk.{Spot, Walked, stayed, ended, lost}
 use Rattle.walk.specs.Reads.{Written}
 use Rattle.walk.specs.Code.{spot_of}
-use Rattle.list.specs.declared.points.Halt.{Halt}
-use Rattle.list.specs.declared.points.Halt.TheVariants.{More, End, Lost}
-use Rattle.list.specs.declared.points.Paged.{Paged}
+use Rattle.walk.specs.declared.cursor.Cursor.{Cursor}
+use Rattle.walk.specs.declared.cursor.Lost.{Lost}
+use Rattle.list.specs.declared.points.PageEnd.{PageEnd}
 
 -- so many records are written, and the output
 abbrev pub so_far : ℕ → List ℕ → Written
@@ -17,14 +17,10 @@ unfoldable pub begun : List ℕ → Written
 begun out = record { count = 0; out = out }
 
 -- what a page's end says, with what it left in the output
-unfoldable pub paged_as : Halt → Written → Spot → Walked Written (Written × Spot)
-paged_as More w c = stayed (w, c)
-paged_as End w c = ended w
-paged_as (Lost g s) w c = lost g s w
+unfoldable pub paged_as : Result (Option Cursor) Lost → Written → Walked Written (Written × Spot)
+paged_as (Ok (Some c)) w = stayed (w, spot_of c)
+paged_as (Ok None) w = ended w
+paged_as (Err l) w = lost l.segment l.selector w
 
-unfoldable pub paged_of : Paged → List ℕ → Walked Written (Written × Spot)
-paged_of r out = paged_as r.stop (record { count = r.count; out = out }) (spot_of r.cursor)
-
--- a page's end says so, whatever stands in the output
-pub record Says (r : Paged) (says : List ℕ → Walked Written (Written × Spot)) : Type 0 where
-  pub of : (out : List ℕ) → paged_of r out ≡ says out
+unfoldable pub paged_of : PageEnd → List ℕ → Walked Written (Written × Spot)
+paged_of r out = paged_as r.stop (so_far r.count out)

@@ -24,6 +24,11 @@ pub record Padded (keys : List ℕ) (h : ℕ) : Type 0 where
   pub room : length keys ≡ 64
   pub past : (i : ℕ) → h ≤ i → i < 64 → get_or keys i 0 ≡ highest
 
+-- the runs from h on have been read to their ends
+pub record Ended (t places : List ℕ) (h : ℕ) : Type 0 where
+  pub most : h ≤ run_count t
+  pub ended : (r : ℕ) → h ≤ r → r < run_count t → count_of t r ≤ get_or places r 0
+
 -- the runs, how far they have been read, and the next key of each
 pub record Caching (t counts starts places keys : List ℕ) : Type 0 where
   pub reading : Reading t counts starts places

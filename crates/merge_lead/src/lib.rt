@@ -3,9 +3,10 @@
 #![tactic(auto)]
 
 ghost use Rattle.std.specs.Prelude.{◌≡◌, cond, ◌+◌, ◌*◌, ◌≤◌, ◌<◌, length, ltb};
-ghost use Rattle.merge_lead.specs.Heads.Leads.{First, Half, Topped, Kept, Ahead, FirstLeft, Chosen};
+ghost use Rattle.merge_lead.specs.Heads.{Ended};
+ghost use Rattle.merge_lead.specs.Heads.Leads.{First, Half, Bare, Kept, Ahead, FirstLeft, Heading, Comes};
 
-use number::usize_of_u8;
+use tray::Tray;
 
 // A key, and the first run that has it.
 #[derive(Clone, Copy)]
@@ -14,30 +15,37 @@ pub struct Lead {
     pub run: u8,
 }
 
+// What is kept of the runs of a merge: the next key of each and the one after it, and of each block of eight runs the least next key and the
+// first run that has it. Past the runs the highest number is kept.
+#[derive(Drop)]
+pub struct Heads {
+    pub keys: [u64; 64],
+    pub nexts: [u64; 64],
+    pub tops: [u64; 8],
+    pub firsts: [u8; 8],
+}
+
 // The one with the lower key, and of equal ones the first.
 fn ahead(a: Lead, b: Lead) -> Lead
     ensures { result ≡ cond (ltb b.key a.key) b a }
 {
-    if b.key < a.key {
-        return b;
-    }
-    a
+    if b.key < a.key { b } else { a }
 }
 
-// The key of a run.
+// The number at a place.
 fn lead_at(keys: &[u64], r: u8) -> Lead
-    requires { (length keys.now ≡ 64) × (r < 64) }
+    requires { r < length keys.now }
     ensures { First keys.now r (r + 1) result.key result.run }
 {
     Lead {
-        key: keys[usize_of_u8(r)],
+        key: keys[usize::from(r)],
         run: r,
     }
 }
 
-// The first of four runs, and of eight.
+// The first of four, and of eight.
 fn least_of_4(keys: &[u64], r: u8) -> Lead
-    requires { (length keys.now ≡ 64) × (r + 4 ≤ 64) }
+    requires { (r + 4 ≤ length keys.now) × (length keys.now ≤ 64) }
     ensures { First keys.now r (r + 4) result.key result.run }
 {
     let a = ahead(lead_at(keys, r), lead_at(keys, r + 1));
@@ -46,87 +54,85 @@ fn least_of_4(keys: &[u64], r: u8) -> Lead
 }
 
 fn least_of_8(keys: &[u64], r: u8) -> Lead
-    requires { (length keys.now ≡ 64) × (r + 8 ≤ 64) }
+    requires { (r + 8 ≤ length keys.now) × (length keys.now ≤ 64) }
     ensures { First keys.now r (r + 8) result.key result.run }
 {
     ahead(least_of_4(keys, r), least_of_4(keys, r + 4))
 }
 
-// The first of block b, kept, of h runs in all. Up to four are the first half of the one block.
-pub fn keep(keys: &[u64], h: u8, b: u8, tops: &mut [u64], firsts: &mut [u8])
-    requires { (length keys.now ≡ 64) × (b < 8) × (length tops.old ≡ 8) × (length firsts.old ≡ 8) × Half keys.now h b }
-    ensures { Kept keys.now b tops.old firsts.old tops.new firsts.new }
+// The first run that is not at its end.
+fn first_left(tray: &Tray, places: &[u16; 63], h: u8) -> Option<u8>
+    requires { h ≤ 63 }
+    ensures { FirstLeft tray.now.counts places.now h result }
 {
-    if h <= 4 {
-        let m = least_of_4(keys, 0);
-        tops[0] = m.key;
-        firsts[0] = m.run;
-        return;
-    }
-    let l = least_of_8(keys, 8 * b);
-    let i = usize_of_u8(b);
-    tops[i] = l.key;
-    firsts[i] = l.run;
-}
-
-// What is kept of a block.
-fn kept(tops: &[u64], firsts: &[u8], b: usize) -> Lead
-    requires { (length tops.now ≡ 8) × (length firsts.now ≡ 8) × (b < 8) }
-    ensures { Topped tops.now firsts.now b (b + 1) result.key result.run }
-{
-    Lead {
-        key: tops[b],
-        run: firsts[b],
-    }
-}
-
-// The first of four blocks.
-fn least_of_4_kept(tops: &[u64], firsts: &[u8], b: usize) -> Lead
-    requires { (length tops.now ≡ 8) × (length firsts.now ≡ 8) × (b + 4 ≤ 8) }
-    ensures { Topped tops.now firsts.now b (b + 4) result.key result.run }
-{
-    let x = ahead(kept(tops, firsts, b), kept(tops, firsts, b + 1));
-    let y = ahead(kept(tops, firsts, b + 2), kept(tops, firsts, b + 3));
-    ahead(x, y)
-}
-
-// The first of h runs. Up to eight are one block.
-pub fn leader(tops: &[u64], firsts: &[u8], h: u8) -> Lead
-    requires { (length tops.now ≡ 8) × (length firsts.now ≡ 8) × (h ≤ 63) }
-    ensures { Ahead tops.now firsts.now h result.key result.run }
-{
-    if h <= 8 {
-        return kept(tops, firsts, 0);
-    }
-    ahead(
-        least_of_4_kept(tops, firsts, 0),
-        least_of_4_kept(tops, firsts, 4),
-    )
-}
-
-// The first run that is not at its end, or h.
-fn first_left(counts: &[u16], places: &[u16], h: u8) -> u8
-    requires { (length counts.now ≡ 63) × (length places.now ≡ 63) × (h ≤ 63) }
-    ensures { FirstLeft counts.now places.now h result }
-{
-    let mut r: u8 = 0;
-    while r < h {
-        let i = usize_of_u8(r);
-        if places[i] < counts[i] {
-            return r;
+    for r in 0..h {
+        let i = usize::from(r);
+        if places[i] < tray.counts[i] {
+            return Some(r);
         }
-        r += 1;
     }
-    r
+    None
 }
 
-// The run that comes next, or h. The highest number is kept of runs at their end too.
-pub fn choose(l: Lead, counts: &[u16], places: &[u16], h: u8) -> u8
-    requires { (length counts.now ≡ 63) × (length places.now ≡ 63) × (h ≤ 63) }
-    ensures { Chosen counts.now places.now h l.key l.run result }
-{
-    if l.key < 18446744073709551615 {
-        return l.run;
+impl Heads {
+    // Nothing kept yet.
+    pub fn new() -> Heads
+        ensures { Bare result }
+    {
+        Heads {
+            keys: [u64::MAX; 64],
+            nexts: [u64::MAX; 64],
+            tops: [u64::MAX; 8],
+            firsts: [u8::MAX; 8],
+        }
     }
-    first_left(counts, places, h)
+
+    // The first of block b, kept, of h runs in all. Up to four are the first half of the one block.
+    pub fn keep(&mut self, h: u8, b: u8)
+        requires { (b < 8) × Half self.old.keys h b }
+        ensures kept { Kept self.old.keys b self.old.tops self.old.firsts self.new.tops self.new.firsts }
+        ensures same { (self.new.keys ≡ self.old.keys) × (self.new.nexts ≡ self.old.nexts) }
+    {
+        let l = if h <= 4 {
+            least_of_4(&self.keys, 0)
+        } else {
+            least_of_8(&self.keys, 8 * b)
+        };
+        let i = usize::from(b);
+        self.tops[i] = l.key;
+        self.firsts[i] = l.run;
+    }
+
+    // The first of h runs. Up to eight are one block.
+    pub fn leader(&self, h: u8) -> Lead
+        requires { h ≤ 63 }
+        ensures { Ahead self.now.tops self.now.firsts h result.key result.run }
+    {
+        if h <= 8 {
+            return Lead {
+                key: self.tops[0],
+                run: self.firsts[0],
+            };
+        }
+        let l = least_of_8(&self.tops, 0);
+        Lead {
+            key: l.key,
+            run: self.firsts[usize::from(l.run)],
+        }
+    }
+
+    // The run that comes next, with its key, or none. The runs from h on are at their ends and not looked at. The highest number is kept of runs
+    // at their ends too.
+    pub fn next(&self, tray: &Tray, places: &[u16; 63], h: u8) -> Option<Lead>
+        requires heading { Heading tray.now places.now self.now }
+        requires ended { Ended tray.now.bytes.now places.now h }
+        ensures { Comes tray.now places.now result }
+    {
+        let l = self.leader(h);
+        if l.key < u64::MAX {
+            return Some(l);
+        }
+        let r = first_left(tray, places, h)?;
+        Some(Lead { key: l.key, run: r })
+    }
 }

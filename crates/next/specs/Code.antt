@@ -1,41 +1,70 @@
 -- What the code of next needs of its answer.
---     told_is               what the code's walk tells is next's answer
---     next-ends             from the end, the end
---     next-off              a cursor that doesn't belong
-use Rattle.std.specs.Prelude.{◌≡◌, ℕ, ◌≤◌, Bool, true, false, List}
-use Rattle.std.proofs.Math.Path.{sym, ap}
-use Rattle.std.proofs.Common.{◌∙◌, arith}
-use borrow.Author.Tests.{le-ltb}
-use Rattle.refusal.specs.declared.Refusal.TheVariants.{Cursor as NotBelonging}
-use Rattle.tray.specs.Frame.{run_count}
-use Rattle.index.specs.Layout.{segment_count}
+--     told-found, told-lost, told-end     what next tells of the end of the walk
+--     count-inside                        the count of a run
+--     inside-run, beyond-run              the loss rule by that count
+--     next-on, next-off                   a cursor that belongs, and one that doesn't
+use Rattle.std.specs.Prelude.{◌≡◌, ℕ, ◌+◌, ◌*◌, ◌%◌, ◌≤◌, ◌<◌, length, Bool, true, false, List, get_or, Ok, Err, Result}
+use Rattle.std.proofs.Common.{sym, ap, ◌∙◌, arith}
+use Rattle.refusal.specs.declared.Refusal.{Refusal}
+use Rattle.refusal.specs.declared.Refusal.TheVariants.{Lost, Cursor as NotBelonging}
+use Rattle.tray.specs.declared.Place.{Place}
+use Rattle.tray.specs.Frame.{run_count, count_of, start_of, Framed}
 use Rattle.walk.specs.declared.cursor.Cursor.{Cursor}
-use Rattle.answers.specs.declared.CursorAnswer.{CursorAnswer}
-use Rattle.answers.specs.declared.SeekAnswer.TheVariants.{End}
-use Rattle.walk.specs.Walk.{walk_from}
-use Rattle.walk.specs.Reads.{belongs, next}
-use Rattle.walk.specs.Code.{Walking, spot_of}
-use Rattle.answers.specs.Quick.{end_at}
-use Rattle.answers.specs.Code.{end-at}
-use Rattle.answers.specs.Next.{refused_next, next_told, next_framed}
+use Rattle.answers.specs.declared.Stand.{Stand}
+use Rattle.answers.specs.declared.Stand.TheVariants.{Found as FoundAt, End}
+use Rattle.walk.specs.Walk.{named, Walked, stayed, ended, lost}
+use Rattle.walk.specs.Reads.{Found, found_by, belongs, next}
+use Rattle.walk.specs.Code.{placed, numbers, Walking, spot_of}
+use Rattle.walk.specs.Code.Moves.{end_at}
+use Rattle.walk.specs.Code.Turns.{place_is, count-is, named-yes, named_past}
+use Rattle.answers.specs.Code.{cursor-back, end-at}
+use Rattle.answers.specs.Seek.{seek_told}
+use Rattle.answers.specs.Next.{next_framed}
 
-module _ {t x : List ℕ} {h d n : ℕ} {counts : List ℕ} (w : Walking t x h d n counts) (c : Cursor) {b : Bool} (told : b ≡ belongs h x (spot_of c)) where
-  there : b ≡ true → belongs (run_count t) x (spot_of c) ≡ true
-  there y = ap (λ (k : ℕ). belongs k x (spot_of c)) (sym w.runs) ∙ sym told ∙ y
+-- the count of a run stands inside the tray
+pub count-inside : {t : List ℕ} → Framed t → (r : ℕ) → r < run_count t → 6 + 2 * r ≤ length t
+unfolding start_of
+count-inside f r l = omega (arith, f.whole)
 
-  -- what the code's walk tells is next's answer
-  pub told_is : {r : CursorAnswer} → b ≡ true → r ≡ next_told x c (next t x (spot_of c)) → r ≡ next_framed t x c
-  unfolding next_framed
-  told_is y e = e ∙ sym (rw (there y))
+module _ {t x : List ℕ} {h d n : ℕ} {counts : List ℕ} (w : Walking t x h d n counts) where
+  -- what next tells of the end of the walk
+  module _ {whole : Walked ℕ Found} where
+    pub told-found : (g s v : ℕ) {i : ℕ} (places : List Place) → v % 64 < h → i ≡ v % 64
+        → stayed (found_by v (record { segment = g; selector = s; places = numbers places })) ≡ whole
+        → Ok (FoundAt (record { 0 = v % 64 }) (get_or places i (placed 0)) (record { segment = record { 0 = g }; selector = s; places = places })) ≡ seek_told x whole
+    unfolding seek_told found_by spot_of
+    told-found g s v {i} places below e walked =
+        let at : Cursor = record { segment = record { 0 = g }; selector = s; places = places } in
+        ap (λ (k : Cursor). Ok (FoundAt (record { 0 = v % 64 }) (get_or places i (placed 0)) k)) (sym (cursor-back at))
+        ∙ ap (λ (p : ℕ). seek_told x (stayed (record { run = v % 64; place = p; spot = spot_of at }))) (place_is w v places below e)
+        ∙ ap (seek_told x) walked
 
-  -- from the end, the end
-  pub next-ends : {r : CursorAnswer} → b ≡ true → n ≤ c.segment.0 → r ≡ record { answer = End; cursor = end_at n } → r ≡ next_framed t x c
-  unfolding next_framed next walk_from next_told spot_of
-  next-ends y l e =
-      let count : n ≡ segment_count x = w.index.count in
-      e ∙ ap (λ (k : Cursor). record { answer = End; cursor = k }) (end-at x count) ∙ sym (rw (there y, le-ltb c.segment.0 (segment_count x) (omega arith)))
+    pub told-lost : {g s k : ℕ} → k ≡ s → lost g s 0 ≡ whole → Err (Lost g k) ≡ seek_told x whole
+    unfolding seek_told
+    told-lost {g} e walked = ap (λ (i : ℕ). Err (Lost g i)) e ∙ ap (seek_told x) walked
 
-  -- a cursor that doesn't belong
-  pub next-off : {r : CursorAnswer} → b ≡ false → r ≡ refused_next c (NotBelonging c.segment.0) → r ≡ next_framed t x c
-  unfolding next_framed
-  next-off f e = e ∙ sym (rw (ap (λ (k : ℕ). belongs k x (spot_of c)) (sym w.runs) ∙ sym told ∙ f))
+    pub told-end : ended 0 ≡ whole → Ok (End (end_at n)) ≡ seek_told x whole
+    unfolding seek_told
+    told-end walked = ap (λ (c : Cursor). Ok (End c)) (end-at x w.index.count) ∙ ap (seek_told x) walked
+
+  -- the loss rule by a count that was read in the tray
+  module _ (v : ℕ) {i count : ℕ} (places : List Place) (below : v % 64 < h) (e : i ≡ v % 64) (told : count ≡ count_of t (v % 64)) where
+    pub inside-run : (get_or places i (placed 0)).0 < count → named t (numbers places) v ≡ true
+    inside-run l = let same = count-is w v places below e in named-yes w v places below e (omega arith)
+
+    pub beyond-run : count ≤ (get_or places i (placed 0)).0 → named t (numbers places) v ≡ false
+    beyond-run l = let same = count-is w v places below e in named_past w v places below e (omega arith)
+
+  module _ (c : Cursor) {b : Bool} (told : b ≡ belongs h x (spot_of c)) where
+    there : belongs (run_count t) x (spot_of c) ≡ b
+    there = ap (λ (k : ℕ). belongs k x (spot_of c)) (sym w.runs) ∙ sym told
+
+    -- what next tells of the walk from a cursor that belongs is its answer
+    pub next-on : {r : Result Stand Refusal} → b ≡ true → r ≡ seek_told x (next t x (spot_of c)) → r ≡ next_framed t x c
+    unfolding next_framed
+    next-on y e = e ∙ sym (rw (there ∙ y))
+
+    -- a cursor that doesn't belong
+    pub next-off : b ≡ false → Err (NotBelonging c.segment.0) ≡ next_framed t x c
+    unfolding next_framed
+    next-off f = sym (rw (there ∙ f))

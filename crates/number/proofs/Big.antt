@@ -3,4 +3,3 @@ pub mod Laws
 pub mod Writes
 pub mod Order
 mod Cases
-pub mod Copies

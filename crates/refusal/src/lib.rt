@@ -5,7 +5,7 @@ ghost use Rattle.std.specs.Prelude.{◌≡◌};
 ghost use Rattle.refusal.specs.Table.{lost_figure, verdict_of};
 
 // A line of the table each, in its order. What a variant holds is what its figure is made of.
-#[derive(Clone, Copy)]
+#[derive(Clone, Copy, PartialEq, Eq)]
 pub enum Refusal {
     // The tray breaks the header, count or length rules.
     TrayFrame,
@@ -34,7 +34,7 @@ pub enum Refusal {
 }
 
 // A refusal as a caller gets it: its number in the table and its figure.
-#[derive(Clone, Copy)]
+#[derive(Clone, Copy, PartialEq, Eq)]
 pub struct Verdict {
     pub number: u8,
     pub figure: u64,
@@ -44,61 +44,36 @@ pub struct Verdict {
 fn lost_figure(segment: u32, selector: u32) -> u64
     ensures { result ≡ lost_figure segment selector }
 {
-    (segment as u64) * 128 + (selector as u64)
+    u64::from(segment) * 128 + u64::from(selector)
+}
+
+impl Verdict {
+    // A number and its figure.
+    fn new(number: u8, figure: u64) -> Verdict
+        ensures { result ≡ record { number = number; figure = figure } }
+    {
+        Verdict { number, figure }
+    }
 }
 
 // The number and figure of a refusal.
-pub fn verdict_of(r: Refusal) -> Verdict
-    ensures { result ≡ verdict_of r }
-{
-    match r {
-        Refusal::TrayFrame => Verdict {
-            number: 1,
-            figure: 0,
-        },
-        Refusal::KeyOrder(n) => Verdict {
-            number: 2,
-            figure: n,
-        },
-        Refusal::RecordKind(n) => Verdict {
-            number: 3,
-            figure: n,
-        },
-        Refusal::IndexFrame => Verdict {
-            number: 4,
-            figure: 0,
-        },
-        Refusal::Segment(g) => Verdict {
-            number: 5,
-            figure: g,
-        },
-        Refusal::SegmentSize(d) => Verdict {
-            number: 6,
-            figure: d,
-        },
-        Refusal::Room(n) => Verdict {
-            number: 7,
-            figure: n,
-        },
-        Refusal::Bounds(n) => Verdict {
-            number: 8,
-            figure: n,
-        },
-        Refusal::PrefixEnd(n) => Verdict {
-            number: 9,
-            figure: n,
-        },
-        Refusal::Lost(g, s) => Verdict {
-            number: 10,
-            figure: lost_figure(g, s),
-        },
-        Refusal::Cursor(g) => Verdict {
-            number: 11,
-            figure: g,
-        },
-        Refusal::RunLength(n) => Verdict {
-            number: 12,
-            figure: n,
-        },
+impl From<Refusal> for Verdict {
+    ghost from_gives = { λ r v. v ≡ verdict_of r };
+
+    fn from(r: Refusal) -> Verdict {
+        match r {
+            Refusal::TrayFrame => Verdict::new(1, 0),
+            Refusal::KeyOrder(n) => Verdict::new(2, n),
+            Refusal::RecordKind(n) => Verdict::new(3, n),
+            Refusal::IndexFrame => Verdict::new(4, 0),
+            Refusal::Segment(g) => Verdict::new(5, g),
+            Refusal::SegmentSize(d) => Verdict::new(6, d),
+            Refusal::Room(n) => Verdict::new(7, n),
+            Refusal::Bounds(n) => Verdict::new(8, n),
+            Refusal::PrefixEnd(n) => Verdict::new(9, n),
+            Refusal::Lost(g, s) => Verdict::new(10, lost_figure(g, s)),
+            Refusal::Cursor(g) => Verdict::new(11, g),
+            Refusal::RunLength(n) => Verdict::new(12, n),
+        }
     }
 }

@@ -2,129 +2,78 @@
 #![tactic(auto)]
 
 ghost use Rattle.std.specs.Prelude.{◌≡◌, ◌-◌, ◌<◌};
-ghost use Rattle.tray.specs.Frame.{run_count, count_of, Starts};
-ghost use Rattle.walk.specs.Walk.{ended, walk_segments};
-ghost use Rattle.walk.specs.Reads.{seek_visit};
-ghost use Rattle.walk.specs.Code.{Walking, sought_of};
-ghost use Rattle.walk.specs.Code.Seek.{stays_at, sight_of, lost_at};
+ghost use Rattle.tray.specs.Frame.{run_count, count_of};
+ghost use Rattle.walk.specs.Walk.{walk_segments};
+ghost use Rattle.walk.specs.Reads.{seek_visit, seek};
+ghost use Rattle.walk.specs.Code.{sought_of};
+ghost use Rattle.walk.specs.Code.Seek.{stays_at};
 
 use index::SegmentNo;
-use index::frame::segment_at;
-use number::{u32_of_u8, usize_of_u8};
-use tray::run::head_of;
-use tray::{Place, RunNo};
-use walk::cursor::{Cursor, Sight, Sought, load};
+use tray::run::key_at;
+use tray::{Place, RunNo, Tray};
+use walk::Indexed;
+use walk::cursor::{Cursor, Lost, Sighting, load};
+use walk::start::start_at;
 
 // Whether the walk for a key stays at a record: its selector is unmarked, and its key at or above the key asked for.
-fn stays(t: &[u8], starts: &[usize], v: u8, p: Place, key: u64) -> bool
-    requires starts { Starts t.now starts.now }
-    requires v_bound { (v < 64 → v < run_count t.now) × (v < 64 → p.0 < count_of t.now v) }
-    ensures { result ≡ stays_at t.now key v p.0 }
+fn stays(tray: &Tray, v: u8, p: Place, key: u64) -> bool
+    requires { (v < 64 → v < run_count tray.now.bytes.now) × (v < 64 → p.0 < count_of tray.now.bytes.now v) }
+    ensures { result ≡ stays_at tray.now.bytes.now key v p.0 }
 {
-    if v < 64 {
-        let e = head_of(t, starts, RunNo(v), p);
-        return key <= e.key;
-    }
-    false
-}
-
-// The walk stays at a record.
-pub fn found(g: u32, s: u8, places: [Place; 63], v: u8) -> Sought
-    requires { v < 63 }
-    ensures { sought_of result ≡ sight_of g s places v }
-{
-    let i = usize_of_u8(v);
-    Sought {
-        sight: Sight::Found(RunNo(v), places[i]),
-        cursor: Cursor {
-            segment: SegmentNo(g),
-            selector: s,
-            places,
-        },
-    }
-}
-
-// The cursor of nothing.
-fn no_cursor() -> Cursor {
-    Cursor {
-        segment: SegmentNo(0),
-        selector: 0,
-        places: [Place(0); 63],
-    }
-}
-
-// The walk is lost at a selector of a segment.
-pub fn lost_at(g: u32, s: u8) -> Sought
-    ensures { sought_of result ≡ lost_at g s }
-{
-    Sought {
-        sight: Sight::Lost(g, u32_of_u8(s)),
-        cursor: no_cursor(),
-    }
-}
-
-// The walk comes to the end.
-pub fn at_end(n: u32) -> Sought
-    ensures { sought_of result ≡ ended 0 }
-{
-    Sought {
-        sight: Sight::End,
-        cursor: Cursor {
-            segment: SegmentNo(n),
-            selector: 0,
-            places: [Place(0); 63],
-        },
-    }
+    v < 64 && key <= key_at(tray.run(RunNo(v)), p)
 }
 
 // The walk for a key from a segment on. It leaves both the selectors and the segments at the first record where it stays.
-pub fn seek_from(
-    t: &[u8],
-    x: &[u8],
-    h: u8,
-    d: u8,
-    n: u32,
-    counts: &[u16],
-    starts: &[usize],
-    from: SegmentNo,
-    key: u64,
-) -> Sought
-    requires walking { Walking t.now x.now h d n counts.now }
-    requires starts { Starts t.now starts.now }
-    ensures { sought_of result ≡ walk_segments t.now x.now (seek_visit t.now key) (n - from.0) from.0 0 }
+pub fn seek_from(indexed: &Indexed, from: SegmentNo, key: u64) -> Result<Option<Sighting>, Lost>
+    ensures { sought_of result ≡ walk_segments indexed.now.tray.bytes.now indexed.now.index.bytes.now (seek_visit indexed.now.tray.bytes.now key) (indexed.now.index.segments - from.0) from.0 0 }
 {
-    let mut g = from.0;
-    'walk: loop {
-        if n <= g {
-            break 'walk at_end(n);
-        }
-        let at = segment_at(SegmentNo(g), h, d);
-        let mut places = load(x, at, h);
-        let first = at + 8 + 2 * usize_of_u8(h);
-        let mut s: u8 = 0;
-        while s < d {
-            let v = x[first + usize_of_u8(s)];
-            if v == 63 {
-                s += 1;
-                continue;
-            }
-            let r = v % 64;
-            if r < h {
-                let i = usize_of_u8(r);
-                let p = places[i];
-                let q = p.0;
-                if q < counts[i] {
-                    if stays(t, starts, v, p, key) {
-                        break 'walk found(g, s, places, v);
-                    }
-                    places[i] = Place(q + 1);
-                    s += 1;
+    let index = &indexed.index;
+    let tray = &indexed.tray;
+    let mut places = [Place(0); 63];
+    'walk: {
+        for g in from.0..index.segments {
+            load(
+                index.bytes,
+                index.segment_at(SegmentNo(g)),
+                index.runs,
+                &mut places,
+            );
+            let first = index.selectors_at(SegmentNo(g));
+            for s in 0..index.size {
+                let v = index.bytes[first + usize::from(s)];
+                if v == 63 {
                     continue;
                 }
-                break 'walk lost_at(g, s);
+                let r = v % 64;
+                let i = usize::from(r);
+                if index.runs <= r || tray.counts[i] <= places[i].0 {
+                    break 'walk Err(Lost {
+                        segment: g,
+                        selector: u32::from(s),
+                    });
+                }
+                let p = places[i];
+                if stays(tray, v, p, key) {
+                    break 'walk Ok(Some(Sighting {
+                        run: RunNo(r),
+                        place: p,
+                        cursor: Cursor {
+                            segment: SegmentNo(g),
+                            selector: s,
+                            places,
+                        },
+                    }));
+                }
+                places[i] = Place(p.0 + 1);
             }
-            break 'walk lost_at(g, s);
         }
-        g += 1;
+        Ok(None)
     }
+}
+
+// The walk for a key from the segment at which it starts.
+pub fn seek_for(indexed: &Indexed, key: u64) -> Result<Option<Sighting>, Lost>
+    ensures { sought_of result ≡ seek indexed.now.tray.bytes.now indexed.now.index.bytes.now key }
+{
+    seek_from(indexed, start_at(&indexed.index, key), key)
 }

@@ -1,45 +1,13 @@
 -- The bounds of a prefix as the code makes them: a copy of the prefix in an array of zeros, its last byte raised for the upper one.
---     Filling, filling-none, filling-more, filling-end      the loop that copies
 --     be-raised                                             a byte raised by one
 --     filled-long, high-set                                 the upper bound
-use Rattle.std.specs.Prelude.{◌≡◌, refl, ℕ, suc, ◌+◌, ◌-◌, ◌*◌, ◌^◌, ◌≤◌, ◌<◌, List, ◌++◌, length, get_or, set, take, replicate}
-use Rattle.std.proofs.Common.{sym, ap, ap₂, ◌∙◌, zero-add, suc-mul, add-one, arith, length-set, length-append, length-take-le, take-suc, take_all, get_or-set_same, get_or-set_other}
-use Rattle.std.proofs.lemmas.List.{length-replicate, set_at}
+use Rattle.std.specs.Prelude.{◌≡◌, ℕ, suc, ◌+◌, ◌-◌, ◌*◌, ◌^◌, ◌≤◌, ◌<◌, List, ◌++◌, length, get_or, set, replicate}
+use Rattle.std.proofs.Common.{sym, ap, ap₂, ◌∙◌, zero-add, suc-mul, add-one, arith, length-append, get_or-set_same, get_or-set_other}
+use Rattle.std.proofs.lemmas.List.{length-replicate}
 use Rattle.std.proofs.Math.ListN.{get_or-append}
-use Rattle.std.proofs.Math.Seq.{append_snoc}
 use Rattle.number.specs.Big.{be}
 use Rattle.number.proofs.Big.Laws.{be-same, be-add}
 use Rattle.walk.specs.Reads.{low_key, high_key}
-
--- the first i bytes of the prefix are copied
-pub record Filling (prefix : List ℕ) (i : ℕ) (key : List ℕ) : Type 0 where
-  pub low : i ≤ length prefix
-  pub room : length key ≡ 8
-  pub same : key ≡ take i prefix ++ replicate (8 - i) 0
-
-pub filling-none : (prefix : List ℕ) → Filling prefix 0 (replicate 8 0)
-filling-none prefix = record { low = omega arith; room = refl; same = refl }
-
-module _ {prefix : List ℕ} {i : ℕ} {key : List ℕ} (f : Filling prefix i key) (few : length prefix ≤ 8) where
-  pub filling-more : i < length prefix → Filling prefix (i + 1) (set key i (get_or prefix i 0))
-  filling-more l =
-      let one : 8 - i ≡ suc (8 - (i + 1)) = omega arith in
-      let zeros : List ℕ = replicate (8 - (i + 1)) 0 in
-      let long = length-take-le i prefix f.low in
-      record {
-        low = omega arith;
-        room = length-set key i (get_or prefix i 0) ∙ f.room;
-        same =
-            ap (λ (k : List ℕ). set k i (get_or prefix i 0)) (f.same ∙ ap (λ (n : ℕ). take i prefix ++ replicate n 0) one)
-            ∙ set_at (take i prefix) 0 zeros (get_or prefix i 0) i long
-            ∙ sym (append_snoc (take i prefix) (get_or prefix i 0) zeros)
-            ∙ ap (λ (k : List ℕ). k ++ zeros) (sym (take-suc prefix i 0 l) ∙ ap (λ (n : ℕ). take n prefix) (sym (add-one i)));
-      }
-
-  pub filling-end : length prefix ≤ i → key ≡ prefix ++ replicate (8 - length prefix) 0
-  filling-end l =
-      let end : i ≡ length prefix = let b = f.low in omega arith in
-      f.same ∙ ap₂ (λ (k : List ℕ) (n : ℕ). k ++ replicate (8 - n) 0) (take_all i prefix l) end
 
 -- a byte raised by one raises the number by 256 to the power of how many follow it
 pub be-raised : (i m : ℕ) (s : List ℕ) → i < length s → be (suc i + m) (set s i (get_or s i 0 + 1)) 0 ≡ be (suc i + m) s 0 + 256 ^ m

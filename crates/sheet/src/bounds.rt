@@ -2,7 +2,7 @@
 ghost use Rattle.std.specs.Prelude.{◌≡◌, ◌++◌, ◌-◌, ◌≤◌, ◌<◌, length, get_or, replicate};
 ghost use Rattle.walk.specs.Reads.{low_key, high_key};
 
-use number::big8;
+use number::BigEndian;
 
 // The prefix filled with zeros.
 fn filled(prefix: &[u8]) -> [u8; 8]
@@ -10,11 +10,7 @@ fn filled(prefix: &[u8]) -> [u8; 8]
     ensures { result ≡ prefix.now ++ replicate (8 - length prefix.now) 0 }
 {
     let mut key = [0u8; 8];
-    let mut i: usize = 0;
-    while i < prefix.len() {
-        key[i] = prefix[i];
-        i += 1;
-    }
+    key[..prefix.len()].copy_from_slice(prefix);
     key
 }
 
@@ -24,7 +20,7 @@ pub fn low_key(prefix: &[u8]) -> u64
     ensures { result ≡ low_key prefix.now }
 {
     let key = filled(prefix);
-    big8(&key, 0)
+    u64::read(&key, 0)
 }
 
 // The first key past a sheet. The last byte is below 255, so that raising it carries nothing.
@@ -35,5 +31,5 @@ pub fn high_key(prefix: &[u8]) -> u64
     let last = prefix.len() - 1;
     let mut key = filled(prefix);
     key[last] = prefix[last] + 1;
-    big8(&key, 0)
+    u64::read(&key, 0)
 }

@@ -2,8 +2,8 @@
 -- writes these records, and stays at the bound or comes to the end. So sheet needs no walk of its own that writes.
 --     second-bound, second-end    what the page comes to
 --     second-listed               what its code leaves in the output: the records that the first pass lists
---     written_count, written_out, written-whole     how many records it wrote, and what stands in the output
-use Rattle.std.specs.Prelude.{◌≡◌, refl, Bool, true, false, cond, drop, eqb, ltb, leb}
+--     written_out, written-whole     what stands in the output then
+use Rattle.std.specs.Prelude.{◌≡◌, refl, Bool, true, false, cond, drop, eqb, ltb, leb, Option, Some, None, Result, Ok, Err}
 use Rattle.std.proofs.Common.{sym, ap, ◌∙◌, subst, zero-add, arith}
 use Prim.Native.Nat.{ℕ, zero, suc, ◌+◌, ◌-◌, ◌*◌, ◌≤◌}
 use mathlib.Core.List.{List, [], ◌∷◌, ◌++◌, append-nil}
@@ -22,10 +22,9 @@ use Rattle.walk.specs.Reads.Page.{listing, written}
 use Rattle.walk.proofs.ReadsLaws.Page.{write-more, written-length, length-listing}
 use Rattle.walk.specs.Reads.Sheet.{Lists}
 use Rattle.walk.specs.Reads.Sheet.Lists.{to-bound, to_end}
-use Rattle.walk.specs.Code.{spot_of}
-use Rattle.list.specs.declared.points.Halt.{Halt}
-use Rattle.list.specs.declared.points.Halt.TheVariants.{More, End, Lost}
-use Rattle.list.specs.declared.points.Paged.{Paged}
+use Rattle.walk.specs.declared.cursor.Cursor.{Cursor}
+use Rattle.walk.specs.declared.cursor.Lost.{Lost}
+use Rattle.list.specs.declared.points.PageEnd.{PageEnd}
 use Rattle.list.specs.Page.{so_far, begun, paged_as, paged_of}
 
 -- what the page comes to, by what the first pass came to from n records on: where the room is just that of its records, the same
@@ -139,17 +138,12 @@ module _ (t x : List ℕ) (high : ℕ) (out : List ℕ) where
     pub second-end : walk_from t x (sheet_visit t high) c [] ≡ ended es → walk_from t x (page_visit t) c (begun out) ≡ ended (written es out)
     second-end h = end_of (subst (λ w. Second out 0 w (walk_from t x (page_visit t) c (begun out))) h (second-pass c))
 
--- how many records are written,
-pub written_count : (es : List Record) (out : List ℕ) → (written es out).count ≡ length es
-unfolding written
-written_count es out = refl
-
--- where,
+-- what stands in the output then: the listing at its front,
 pub written_out : (es : List Record) (out : List ℕ) → (written es out).out ≡ put out 0 (listing es)
 unfolding written put
 written_out es out = ap (λ (k : ℕ). listing es ++ drop k out) (sym (zero-add (length (listing es)) ∙ length-listing es))
 
--- and that nothing else stands in an output with room for just these
+-- and nothing else in an output with room for just these
 pub written-whole : (es : List Record) (out : List ℕ) → length out ≡ 24 * length es → (written es out).out ≡ listing es
 unfolding written
 written-whole es out l = ap (λ (r : List ℕ). listing es ++ r) (ap (λ (k : ℕ). drop k out) (sym l) ∙ drop-length out) ∙ append-nil (listing es)
@@ -160,17 +154,17 @@ out_at (stayed r) = r.0.out
 out_at (ended w) = w.out
 out_at (lost g s w) = w.out
 
-out-paged : (r : Paged) (out : List ℕ) → out_at (paged_of r out) ≡ out
+out-paged : (r : PageEnd) (out : List ℕ) → out_at (paged_of r out) ≡ out
 unfolding out_at paged_of paged_as
 out-paged r out = by-stop r.stop
   where
-    by-stop : (s : Halt) → out_at (paged_as s (so_far r.count out) (spot_of r.cursor)) ≡ out
-    by-stop More = refl
-    by-stop End = refl
-    by-stop (Lost g s) = refl
+    by-stop : (s : Result (Option Cursor) Lost) → out_at (paged_as s (so_far r.count out)) ≡ out
+    by-stop (Ok (Some c)) = refl
+    by-stop (Ok None) = refl
+    by-stop (Err l) = refl
 
 -- the code of a page with room for just the records that the first pass lists leaves these in the output
-pub second-listed : (t x : List ℕ) (high : ℕ) (c : Spot) (out : List ℕ) (r : Paged) {es : List Record} {after : List ℕ} → length out ≡ 24 * length es
+pub second-listed : (t x : List ℕ) (high : ℕ) (c : Spot) (out : List ℕ) (r : PageEnd) {es : List Record} {after : List ℕ} → length out ≡ 24 * length es
     → paged_of r after ≡ walk_from t x (page_visit t) c (begun out) → Lists (walk_from t x (sheet_visit t high) c []) es → after ≡ listing es
 unfolding out_at
 second-listed t x high c out r {es} {after} room page first =

@@ -2,47 +2,36 @@
 // stand as long as there is room for those of a segment.
 #![tactic(auto)]
 
-ghost use Rattle.std.specs.Prelude.{◌≡◌, cond, [], ◌+◌, ◌*◌, ◌≤◌, ◌<◌, leb, length, take};
-ghost use Rattle.tray.specs.Frame.{Starts};
-ghost use Rattle.walk.specs.Walk.{walk_from};
-ghost use Rattle.walk.specs.Reads.{sheet_visit};
-ghost use Rattle.walk.specs.Code.{Walking, spot_of};
+ghost use Rattle.std.specs.Prelude.{◌≡◌, cond, ◌+◌, ◌*◌, ◌≤◌, leb, length, IfOk};
 ghost use Rattle.list.specs.Stops.{Within};
+ghost use Rattle.list.specs.Listing.{sheet_of};
 ghost use Rattle.sheet_count.specs.Count.{Past, Counts};
 
 use index::SegmentNo;
-use index::frame::segment_at;
-use list::points::Halt;
+use list::Listing;
 use list::stops::gather;
-use number::usize_of_u8;
 use tray::Place;
 use tray::run::key_at;
-use walk::cursor::{Cursor, place_numbers, reload};
+use walk::cursor::Lost;
 
-// The end of a count: where the walk stopped, how many records it passed that are to be listed, and how many of them, the last ones, are
-// remembered.
+// A count that came through: how many records are to be listed, and how many of them, the last ones, are remembered.
 #[derive(Clone, Copy)]
 pub struct Counted {
-    pub stop: Halt,
     pub count: usize,
     pub held: usize,
 }
 
-// The first of the gathered records whose key is at or above a bound, or their end.
-fn first_past(t: &[u8], ats: &[usize], from: usize, to: usize, high: u64) -> usize
-    requires within { Within t.now (take to ats.now) }
-    requires from_le_to { (from ≤ to) × (to ≤ length ats.now) }
-    ensures { Past t.now ats.now from to high result }
+// How many of the gathered records stand before the first one whose key is at or above a bound.
+fn first_past(t: &[u8], ats: &[usize], high: u64) -> usize
+    requires { Within t.now ats.now }
+    ensures { Past t.now ats.now high result }
 {
-    let mut i = from;
-    while i < to {
-        let a = ats[i];
-        if high <= key_at(&t[a..a + 25], Place(0)) {
+    for (i, a) in ats.iter().enumerate() {
+        if high <= key_at(&t[*a..*a + 25], Place(0)) {
             return i;
         }
-        i += 1;
     }
-    to
+    ats.len()
 }
 
 // So many are remembered where there is room for more, and else none.
@@ -57,77 +46,30 @@ fn slots_kept(held: usize, more: usize, room: usize) -> usize
     held
 }
 
-// How many unmarked records stand from a cursor on, which is not the end, until the first key at or above a bound.
-pub fn count_from(
-    t: &[u8],
-    x: &[u8],
-    h: u8,
-    d: u8,
-    n: u32,
-    counts: &[u16],
-    starts: &[usize],
-    from: Cursor,
-    high: u64,
-    ats: &mut [usize],
-) -> Counted
-    requires walking { Walking t.now x.now h d n counts.now }
-    requires starts { Starts t.now starts.now }
-    requires segment_lt_n { (from.segment.0 < n) × (from.selector ≤ d) × (d ≤ length ats.old) }
-    ensures counts { Counts t.now (walk_from t.now x.now (sheet_visit t.now high) (spot_of from) []) result ats.new }
-    ensures count_bound { result.count ≤ 256 * n }
+// How many unmarked records a listing comes to until the first key at or above a bound, or where its walk is lost; never more than 2^40.
+pub fn count_from(listing: &Listing, high: u64, ats: &mut [usize]) -> Result<Counted, Lost>
+    requires { listing.now.indexed.now.index.size ≤ length ats.old }
+    ensures counts { Counts listing.now.indexed.now.tray.bytes.now (sheet_of listing.now high) result ats.new }
+    ensures count_bound { IfOk result (λ c. c.count ≤ 256 * listing.now.indexed.now.index.segments) }
+    ensures count_few { IfOk result (λ c. c.count ≤ 1099511627776) }
 {
-    let room = ats.len();
-    let size = usize_of_u8(d);
+    let indexed = listing.indexed;
+    let index = &indexed.index;
     let mut count: usize = 0;
     let mut held: usize = 0;
-    let mut g = from.segment.0;
-    let mut s = from.selector;
-    let first = from.places;
-    let mut places = place_numbers(first);
-    loop {
-        let at = usize_of_u8(s);
-        let before = slots_kept(held, size - at, room);
-        let m = gather(
-            t,
-            x,
-            h,
-            d,
-            n,
-            counts,
-            starts,
-            g,
-            at,
-            &mut places,
-            before,
-            ats,
-        );
-        let k = m.count;
-        held = first_past(t, ats, before, k, high);
-        count += held - before;
+    let mut places = [Place(0); 63];
+    for g in listing.from.segment.0..index.segments {
+        let at = usize::from(listing.enter(SegmentNo(g), &mut places));
+        let before = slots_kept(held, usize::from(index.size) - at, ats.len());
+        let gathered = gather(indexed, SegmentNo(g), at, &mut places, before, ats);
+        let k = gathered.count;
+        let fresh = first_past(indexed.tray.bytes, &ats[before..k], high);
+        held = before + fresh;
+        count += fresh;
         if held < k {
-            return Counted {
-                stop: Halt::More,
-                count,
-                held,
-            };
+            return Ok(Counted { count, held });
         }
-        let stop = m.stop;
-        if stop < size {
-            return Counted {
-                stop: Halt::Lost(g, stop as u32),
-                count,
-                held,
-            };
-        }
-        g += 1;
-        if n <= g {
-            return Counted {
-                stop: Halt::End,
-                count,
-                held,
-            };
-        }
-        reload(x, segment_at(SegmentNo(g), h, d), h, &mut places);
-        s = 0;
+        gathered.stop?;
     }
+    Ok(Counted { count, held })
 }

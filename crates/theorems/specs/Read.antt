@@ -5,7 +5,7 @@
 --     Point, point_at, seek-answers     the record that seek finds, by key and value
 --     onward, onward-are          the visible records from a key on
 --     prefixed, sheet-answers, sheet-records     sheet's answer, and the records that it lists
-use Rattle.std.specs.Prelude.{◌≡◌, refl, List, [], ◌∷◌, map, length}
+use Rattle.std.specs.Prelude.{◌≡◌, refl, List, [], ◌∷◌, map, length, Ok, Err, Result}
 use Rattle.std.proofs.Math.Path.{ap}
 use Rattle.std.proofs.Common.{◌∙◌}
 use Prim.Native.Nat.{ℕ}
@@ -22,8 +22,8 @@ use Rattle.tray.specs.Frame.{run_count, run_bytes}
 use Rattle.tray.specs.Frame.Laws.{fits-framed}
 use Rattle.tray.specs.Run.{record_at}
 use Rattle.index.specs.Layout.Laws.{fits-index}
-use Rattle.answers.specs.declared.SeekAnswer.{SeekAnswer}
-use Rattle.answers.specs.declared.SeekAnswer.TheVariants.{Found, End, Refused}
+use Rattle.answers.specs.declared.Stand.{Stand}
+use Rattle.answers.specs.declared.Stand.TheVariants.{Found, End}
 use Rattle.walk.specs.Walk.{Walked}
 use Rattle.walk.specs.Walk.Spots.{Reading, Stop}
 use Rattle.walk.specs.Walk.Tours.{first_of}
@@ -33,12 +33,10 @@ use Rattle.walk.specs.Reads.Shown.{found_at, point_of, shown, Shows, shown-merge
 use Rattle.walk.specs.Reads.Sheet.{Lists, to-bound, to_end, within}
 use Rattle.walk.proofs.ReadsLaws.Sheet.{sheet-is}
 use Rattle.walk.specs.Reads.Seek.{is_from, from, lookup, points, seek_is, get-is, shown-shows}
-use Rattle.answers.specs.declared.SheetAnswer.{SheetAnswer}
-use Rattle.answers.specs.declared.SheetAnswer.TheVariants.{Refused as SheetRefused}
 use Rattle.answers.specs.Sheet.{prefix_long, prefix_last, listed_in, sheet_told, records_of, sheet_framed, sheet_answer}
 use Rattle.answers.specs.Quick.{in_frames}
-use Rattle.answers.specs.Seek.{refused_seek, seek_told, seek_framed, seek_answer}
-use Rattle.answers.specs.Get.{refused_get, got_told, get_framed, get_answer}
+use Rattle.answers.specs.Seek.{seek_told, seek_framed, seek_answer}
+use Rattle.answers.specs.Get.{got_told, get_framed, get_answer}
 
 -- a point as a reader sees it: key and value
 pub data Point : Type 0 where
@@ -47,10 +45,10 @@ pub data Point : Type 0 where
   no_answer : Refusal → Point
 
 -- the record that seek's answer names
-unfoldable pub point_at : List ℕ → SeekAnswer → Point
-point_at t (Found run place) = let e = record_at (run_bytes t run.0) place.0 in point e.key e.value
-point_at t End = no-point
-point_at t (Refused r) = no_answer r
+unfoldable pub point_at : List ℕ → Result Stand Refusal → Point
+point_at t (Ok (Found run place c)) = let e = record_at (run_bytes t run.0) place.0 in point e.key e.value
+point_at t (Ok (End c)) = no-point
+point_at t (Err r) = no_answer r
 
 -- the first of some records
 unfoldable pub first_point : List Record → Point
@@ -69,25 +67,25 @@ module _ {t x : List ℕ} (r : Reading t x) where
 
   pub get-answers : (key : List ℕ) → get_answer t x key ≡ got_told (lookup (be 8 key 0) (points t))
   unfolding get_answer get_framed
-  get-answers key = fits-frames refused_get (get_framed t x (be 8 key 0)) ∙ ap got_told (get-is r (be 8 key 0))
+  get-answers key = fits-frames Err (get_framed t x (be 8 key 0)) ∙ ap got_told (get-is r (be 8 key 0))
 
   -- the visible records from a key on
   pub onward-are : (key : ℕ) → map point_of (from t x key) ≡ onward t key
   unfolding onward
   onward-are key = keep-map point_of (λ e. leb key e.key) (shown t x) ∙ ap (keep (λ e. leb key e.key)) (shown-merged r)
 
-  pub seek-answers : (key : List ℕ) → point_at t (seek_answer t x key).answer ≡ first_point (onward t (be 8 key 0))
+  pub seek-answers : (key : List ℕ) → point_at t (seek_answer t x key) ≡ first_point (onward t (be 8 key 0))
   unfolding seek_answer seek_framed seek_told point_at first_point first_of found_at
   seek-answers key =
-      ap (λ s. point_at t s.answer) (fits-frames refused_seek (seek_framed t x k))
-      ∙ ap (λ w. point_at t (seek_told x w).answer) (seek_is r k)
+      ap (point_at t) (fits-frames Err (seek_framed t x k))
+      ∙ ap (λ w. point_at t (seek_told x w)) (seek_is r k)
       ∙ first (from t x k) (λ p m. shown-shows r p (keep-mem (is_from k) (shown t x) m).0)
       ∙ ap first_point (onward-are k)
     where
       k : ℕ
       k = be 8 key 0
 
-      first : (ps : List Stop) → All (Shows t) ps → point_at t (seek_told x (first_of found_at ps 0)).answer ≡ first_point (map point_of ps)
+      first : (ps : List Stop) → All (Shows t) ps → point_at t (seek_told x (first_of found_at ps 0)) ≡ first_point (map point_of ps)
       first [] h = refl
       first (p ∷ ps) h = ap (λ (e : Record). point e.key e.value) (h p here).reads
 
@@ -107,16 +105,16 @@ unfoldable pub prefixed : List ℕ → List ℕ → List Record
 prefixed t prefix = keep (within (low_key prefix) (high_key prefix)) (points t)
 
 -- sheet's answer for some records
-unfoldable pub sheet_of : List Record → List ℕ → ℕ → SheetAnswer
+unfoldable pub sheet_of : List Record → List ℕ → ℕ → Result ℕ Refusal
 sheet_of es prefix room =
-    cond (prefix_long prefix) (cond (prefix_last prefix) (SheetRefused (PrefixEnd (length prefix))) (listed_in room es)) (SheetRefused (Bounds (length prefix)))
+    cond (prefix_long prefix) (cond (prefix_last prefix) (Err (PrefixEnd (length prefix))) (listed_in room es)) (Err (Bounds (length prefix)))
 
 module _ {t x : List ℕ} (r : Reading t x) (prefix : List ℕ) where
   pub sheet-answers : (room : ℕ) → sheet_answer t x prefix room ≡ sheet_of (prefixed t prefix) prefix room
   unfolding sheet_answer sheet_framed sheet_of prefixed
   sheet-answers room =
-      fits-frames r SheetRefused (sheet_framed t x prefix room)
-      ∙ ap (λ (a : SheetAnswer). cond (prefix_long prefix) (cond (prefix_last prefix) (SheetRefused (PrefixEnd (length prefix))) a) (SheetRefused (Bounds (length prefix))))
+      fits-frames r Err (sheet_framed t x prefix room)
+      ∙ ap (λ (a : Result ℕ Refusal). cond (prefix_long prefix) (cond (prefix_last prefix) (Err (PrefixEnd (length prefix))) a) (Err (Bounds (length prefix))))
       (lists-told room (sheet-is r prefix))
 
   pub sheet-records : records_of (sheet t x prefix) ≡ prefixed t prefix

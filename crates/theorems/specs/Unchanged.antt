@@ -5,7 +5,8 @@
 --     listed-unchanged       from any key on the same records are visible, in the same order
 --     pages-unchanged        pages from any key on, put together, are the same bytes, whatever room each has
 --     sheet-unchanged, sheet-leaves-unchanged     sheet answers the same and leaves the same output, for every prefix and output
-use Rattle.std.specs.Prelude.{◌≡◌, ℕ, length}
+use Rattle.refusal.specs.declared.Refusal.{Refusal}
+use Rattle.std.specs.Prelude.{◌≡◌, ℕ, length, Ok, Err, Result}
 use Rattle.std.proofs.Math.Path.{refl, sym, ap}
 use Rattle.std.proofs.Common.{◌∙◌}
 use mathlib.Core.List.{List, map}
@@ -14,7 +15,6 @@ use Rattle.number.specs.Big.{be, put, Bytes}
 use Rattle.theory.specs.Records.{Record}
 use Rattle.theory.specs.Rising.{keep}
 use Rattle.tray.specs.Check.{Sound}
-use Rattle.index.specs.declared.IndexAnswer.TheVariants.{Segments}
 use Rattle.index.specs.Check.{check_index_answer}
 use Rattle.walk.specs.Walk.Spots.{Reading, check-reading}
 use Rattle.walk.specs.Reads.Shown.{point_of}
@@ -24,13 +24,12 @@ use Rattle.walk.specs.Reads.Page.{listing}
 use Rattle.walk.specs.Reads.Sheet.{within}
 use Rattle.answers.specs.Seek.{seek_answer}
 use Rattle.answers.specs.Get.{got_told, get_answer}
-use Rattle.answers.specs.declared.SheetAnswer.{SheetAnswer}
-use Rattle.answers.specs.declared.SheetAnswer.TheVariants.{Listed, Refused}
 use Rattle.answers.specs.Sheet.{sheet_answer, sheet_leaves}
 use Rattle.fold_spec.specs.Fold.{Calls}
 use Rattle.fold_spec.proofs.Fold.Chains.{calls-visible}
 use Rattle.theorems.specs.Read.{point_at, first_point, onward, onward-are, get-answers, seek-answers, prefixed, sheet_of, sheet-answers, sheet-records}
-use Rattle.theorems.specs.Paged.{PageCalls, pages-from}
+use Rattle.walk.specs.declared.cursor.Cursor.{Cursor}
+use Rattle.theorems.specs.Paged.{StandsAt, PageCalls, pages-from}
 
 -- a sound tray t, what a chain of calls of fold makes of it, u, none of them refused, and an accepted index of each
 pub record Folded (t x u y : List ℕ) : Type 0 where
@@ -39,8 +38,8 @@ pub record Folded (t x u y : List ℕ) : Type 0 where
   pub folds : Calls t u
   pub before : ℕ
   pub after : ℕ
-  pub accepts : check_index_answer t x ≡ Segments before
-  pub accepts-after : check_index_answer u y ≡ Segments after
+  pub accepts : check_index_answer t x ≡ Ok before
+  pub accepts-after : check_index_answer u y ≡ Ok after
 
 module _ {t x u y : List ℕ} (f : Folded t x u y) where
   read : Reading t x
@@ -64,15 +63,15 @@ module _ {t x u y : List ℕ} (f : Folded t x u y) where
   pub get-unchanged : (key : List ℕ) → get_answer u y key ≡ get_answer t x key
   get-unchanged key = get-answers reread key ∙ ap (λ (es : List Record). got_told (lookup (be 8 key 0) es)) same_points ∙ sym (get-answers read key)
 
-  pub seek-unchanged : (key : List ℕ) → point_at u (seek_answer u y key).answer ≡ point_at t (seek_answer t x key).answer
+  pub seek-unchanged : (key : List ℕ) → point_at u (seek_answer u y key) ≡ point_at t (seek_answer t x key)
   seek-unchanged key = seek-answers reread key ∙ ap first_point (same-onward (be 8 key 0)) ∙ sym (seek-answers read key)
 
   pub listed-unchanged : (key : ℕ) → map point_of (from u y key) ≡ map point_of (from t x key)
   listed-unchanged key = onward-are reread key ∙ same-onward key ∙ sym (onward-are read key)
 
-  pub pages-unchanged : (key : List ℕ) {outs outs' : ℕ → List ℕ} {i j : ℕ} {first second : List ℕ} → PageCalls t x outs i (seek_answer t x key).cursor first
-      → PageCalls u y outs' j (seek_answer u y key).cursor second → second ≡ first
-  pages-unchanged key p q = pages-from reread key q ∙ ap listing (same-onward (be 8 key 0)) ∙ sym (pages-from read key p)
+  pub pages-unchanged : (key : List ℕ) {outs outs' : ℕ → List ℕ} {i j : ℕ} {c d : Cursor} {first second : List ℕ} → StandsAt (seek_answer t x key) c → PageCalls t x outs i c first
+      → StandsAt (seek_answer u y key) d → PageCalls u y outs' j d second → second ≡ first
+  pages-unchanged key {c = c} {d = d} a p b q = pages-from reread key d b q ∙ ap listing (same-onward (be 8 key 0)) ∙ sym (pages-from read key c a p)
 
   pub sheet-unchanged : (prefix : List ℕ) (room : ℕ) → sheet_answer u y prefix room ≡ sheet_answer t x prefix room
   sheet-unchanged prefix room =
@@ -83,6 +82,6 @@ module _ {t x u y : List ℕ} (f : Folded t x u y) where
   sheet-leaves-unchanged prefix out =
       ap (sheet_leaves u y prefix out) (sheet-unchanged prefix (length out)) ∙ same_left (sheet_answer t x prefix (length out))
     where
-      same_left : (a : SheetAnswer) → sheet_leaves u y prefix out a ≡ sheet_leaves t x prefix out a
-      same_left (Listed k) = ap (λ (es : List Record). put out 0 (listing es)) (sheet-records reread prefix ∙ same-prefixed prefix ∙ sym (sheet-records read prefix))
-      same_left (Refused f) = refl
+      same_left : (a : Result ℕ Refusal) → sheet_leaves u y prefix out a ≡ sheet_leaves t x prefix out a
+      same_left (Ok k) = ap (λ (es : List Record). put out 0 (listing es)) (sheet-records reread prefix ∙ same-prefixed prefix ∙ sym (sheet-records read prefix))
+      same_left (Err f) = refl

@@ -7,7 +7,8 @@
 --     own-there, own-else         the same of a verdict with the caller's own figure
 --     build-owned, build-left     build with a wide D
 --     fold-owned, fold-left       fold with wide runs
-use Rattle.std.specs.Prelude.{◌≡◌, refl, ℕ, ◌≤◌, ◌<◌, Bool, true, false, cond, List, eqb, leb}
+use Rattle.refusal.specs.declared.Refusal.{Refusal}
+use Rattle.std.specs.Prelude.{◌≡◌, refl, ℕ, ◌≤◌, ◌<◌, Bool, true, false, cond, List, eqb, leb, Ok, Err, Result}
 use Rattle.std.proofs.Common.{sym, ap, ◌∙◌, subst, arith, leb-true, le-leb, ltb-true, lt-ltb, eq-eqb, ne_eqb}
 use Rattle.std.proofs.lemmas.Bool.{lt-leb}
 use Rattle.refusal.specs.declared.Refusal.TheVariants.{TrayFrame, KeyOrder, RecordKind, IndexFrame, Segment, SegmentSize, Room, Bounds, PrefixEnd, Lost, Cursor, RunLength}
@@ -16,17 +17,13 @@ use Rattle.refusal.specs.Table.{told}
 use Rattle.theory.specs.Tests.{split, cases, clash, same_test, and-true, and_left, and_right}
 use Rattle.tray.specs.Frame.{run_count, framed}
 use Rattle.tray.specs.Frame.Laws.{framed-fits}
-use Rattle.build_spec.specs.declared.BuildAnswer.{BuildAnswer}
-use Rattle.build_spec.specs.declared.BuildAnswer.TheVariants.{Written as BuildWritten, Refused as BuildRefused}
 use Rattle.build_spec.specs.Build.{size_fits, build_answer, build_leaves}
 use Rattle.build_spec.specs.Build.Answers.{When}
 use Rattle.build_spec.proofs.Build.Answers.{build-says}
-use Rattle.fold_spec.specs.declared.FoldAnswer.{FoldAnswer}
-use Rattle.fold_spec.specs.declared.FoldAnswer.TheVariants.{Written as FoldWritten, Refused as FoldRefused}
 use Rattle.fold_spec.specs.Fold.{bounds_hold, fold_answer, fold_leaves}
 use Rattle.fold_spec.specs.Fold.Answers.{When as FoldWhen}
 use Rattle.fold_spec.proofs.Fold.Answers.{fold-says}
-use Rattle.theorems.specs.Told.{build_told, fold_told}
+use Rattle.theorems.specs.Told.{count_told}
 
 -- a number as a byte
 unfoldable pub narrowed : ℕ → ℕ
@@ -65,24 +62,24 @@ narrow_size h d =
     (λ y. subst (λ n. size_fits h n ≡ true) (sym (narrowed-same d (let l = leb-true d 128 (and_right (leb h d) _ y) in omega arith))) y)
 
 -- build's own figure at 6 is D
-own-size : (t : List ℕ) (d room : ℕ) (a : BuildAnswer) → When t d room a → build_told a ≡ owned 6 d (build_told a)
-unfolding build_told owned
-own-size t d room (BuildWritten n) w = refl
-own-size t d room (BuildRefused TrayFrame) w = refl
-own-size t d room (BuildRefused (SegmentSize n)) w = ap (told 6) w.2
-own-size t d room (BuildRefused (RecordKind n)) w = refl
-own-size t d room (BuildRefused (KeyOrder n)) w = refl
-own-size t d room (BuildRefused (Room n)) w = refl
-own-size t d room (BuildRefused IndexFrame) w = absurd w
-own-size t d room (BuildRefused (Segment n)) w = absurd w
-own-size t d room (BuildRefused (Bounds n)) w = absurd w
-own-size t d room (BuildRefused (PrefixEnd n)) w = absurd w
-own-size t d room (BuildRefused (Lost g s)) w = absurd w
-own-size t d room (BuildRefused (Cursor n)) w = absurd w
-own-size t d room (BuildRefused (RunLength n)) w = absurd w
+own-size : (t : List ℕ) (d room : ℕ) (a : Result ℕ Refusal) → When t d room a → count_told a ≡ owned 6 d (count_told a)
+unfolding count_told owned
+own-size t d room (Ok n) w = refl
+own-size t d room (Err TrayFrame) w = refl
+own-size t d room (Err (SegmentSize n)) w = ap (told 6) w.2
+own-size t d room (Err (RecordKind n)) w = refl
+own-size t d room (Err (KeyOrder n)) w = refl
+own-size t d room (Err (Room n)) w = refl
+own-size t d room (Err IndexFrame) w = absurd w
+own-size t d room (Err (Segment n)) w = absurd w
+own-size t d room (Err (Bounds n)) w = absurd w
+own-size t d room (Err (PrefixEnd n)) w = absurd w
+own-size t d room (Err (Lost g s)) w = absurd w
+own-size t d room (Err (Cursor n)) w = absurd w
+own-size t d room (Err (RunLength n)) w = absurd w
 
 -- a D that does not fit is refused
-unfit : (t : List ℕ) (d room : ℕ) → size_fits (run_count t) d ≡ false → build_answer t d room ≡ cond (framed t) (BuildRefused (SegmentSize d)) (BuildRefused TrayFrame)
+unfit : (t : List ℕ) (d room : ℕ) → size_fits (run_count t) d ≡ false → build_answer t d room ≡ cond (framed t) (Err (SegmentSize d)) (Err TrayFrame)
 unfolding build_answer
 unfit t d room n = rw n
 
@@ -92,16 +89,16 @@ unfolding size_fits
 fit_same h d y = narrowed-same d (let l = leb-true d 128 (and_right (leb h d) _ y) in omega arith)
 
 -- build with a wide D answers as with the narrow one, and 6 tells the wide one,
-pub build-owned : (t : List ℕ) (d room : ℕ) → build_told (build_answer t d room) ≡ owned 6 d (build_told (build_answer t (narrowed d) room))
-unfolding build_told owned
+pub build-owned : (t : List ℕ) (d room : ℕ) → count_told (build_answer t d room) ≡ owned 6 d (count_told (build_answer t (narrowed d) room))
+unfolding count_told owned
 build-owned t d room =
     cases (size_fits (run_count t) d)
     (λ y. own-size t d room (build_answer t d room) ((build-says t d room (build_answer t d room)).0 refl)
-    ∙ ap (λ (k : ℕ). owned 6 d (build_told (build_answer t k room))) (sym (fit_same (run_count t) d y)))
+    ∙ ap (λ (k : ℕ). owned 6 d (count_told (build_answer t k room))) (sym (fit_same (run_count t) d y)))
     (λ n. rw (unfit t d room n, unfit t (narrowed d) room (narrow_size (run_count t) d ∙ n)) (off (framed t)))
   where
-    off : (b : Bool) → build_told (cond b (BuildRefused (SegmentSize d)) (BuildRefused TrayFrame))
-        ≡ owned 6 d (build_told (cond b (BuildRefused (SegmentSize (narrowed d))) (BuildRefused TrayFrame)))
+    off : (b : Bool) → count_told (cond b (Err (SegmentSize d)) (Err TrayFrame))
+        ≡ owned 6 d (count_told (cond b (Err (SegmentSize (narrowed d))) (Err TrayFrame)))
     off true = refl
     off false = refl
 
@@ -113,8 +110,8 @@ build-left t d room out =
     (λ y. ap (λ (k : ℕ). build_leaves t k out (build_answer t k room)) (sym (fit_same (run_count t) d y)))
     (λ n. rw (unfit t d room n, unfit t (narrowed d) room (narrow_size (run_count t) d ∙ n)) (off (framed t)))
   where
-    off : (b : Bool) → build_leaves t d out (cond b (BuildRefused (SegmentSize d)) (BuildRefused TrayFrame))
-        ≡ build_leaves t (narrowed d) out (cond b (BuildRefused (SegmentSize (narrowed d))) (BuildRefused TrayFrame))
+    off : (b : Bool) → build_leaves t d out (cond b (Err (SegmentSize d)) (Err TrayFrame))
+        ≡ build_leaves t (narrowed d) out (cond b (Err (SegmentSize (narrowed d))) (Err TrayFrame))
     off true = refl
     off false = refl
 
@@ -137,36 +134,36 @@ narrow-bounds h a b m y =
     and-true (le-leb a b (omega arith)) (lt-ltb b h (omega arith))
 
 -- fold's own figure at 8 is b
-own-bounds : (t : List ℕ) (a b room : ℕ) (x : FoldAnswer) → FoldWhen t a b room x → fold_told x ≡ owned 8 b (fold_told x)
-unfolding fold_told owned FoldWhen
-own-bounds t a b room (FoldWritten n) w = refl
-own-bounds t a b room (FoldRefused TrayFrame) w = refl
-own-bounds t a b room (FoldRefused (Bounds n)) w = ap (told 8) w.2
-own-bounds t a b room (FoldRefused (RecordKind n)) w = refl
-own-bounds t a b room (FoldRefused (KeyOrder n)) w = refl
-own-bounds t a b room (FoldRefused (RunLength n)) w = refl
-own-bounds t a b room (FoldRefused (Room n)) w = refl
-own-bounds t a b room (FoldRefused IndexFrame) w = absurd w
-own-bounds t a b room (FoldRefused (Segment n)) w = absurd w
-own-bounds t a b room (FoldRefused (SegmentSize n)) w = absurd w
-own-bounds t a b room (FoldRefused (PrefixEnd n)) w = absurd w
-own-bounds t a b room (FoldRefused (Lost g s)) w = absurd w
-own-bounds t a b room (FoldRefused (Cursor n)) w = absurd w
+own-bounds : (t : List ℕ) (a b room : ℕ) (x : Result ℕ Refusal) → FoldWhen t a b room x → count_told x ≡ owned 8 b (count_told x)
+unfolding count_told owned FoldWhen
+own-bounds t a b room (Ok n) w = refl
+own-bounds t a b room (Err TrayFrame) w = refl
+own-bounds t a b room (Err (Bounds n)) w = ap (told 8) w.2
+own-bounds t a b room (Err (RecordKind n)) w = refl
+own-bounds t a b room (Err (KeyOrder n)) w = refl
+own-bounds t a b room (Err (RunLength n)) w = refl
+own-bounds t a b room (Err (Room n)) w = refl
+own-bounds t a b room (Err IndexFrame) w = absurd w
+own-bounds t a b room (Err (Segment n)) w = absurd w
+own-bounds t a b room (Err (SegmentSize n)) w = absurd w
+own-bounds t a b room (Err (PrefixEnd n)) w = absurd w
+own-bounds t a b room (Err (Lost g s)) w = absurd w
+own-bounds t a b room (Err (Cursor n)) w = absurd w
 
 -- what fold answers where the frame or the bounds fail
-unframed : (t : List ℕ) (a b room : ℕ) → framed t ≡ false → fold_answer t a b room ≡ FoldRefused TrayFrame
+unframed : (t : List ℕ) (a b room : ℕ) → framed t ≡ false → fold_answer t a b room ≡ Err TrayFrame
 unfolding fold_answer
 unframed t a b room n = rw n
 
-unbounded : (t : List ℕ) (a b room : ℕ) → framed t ≡ true → bounds_hold (run_count t) a b ≡ false → fold_answer t a b room ≡ FoldRefused (Bounds b)
+unbounded : (t : List ℕ) (a b room : ℕ) → framed t ≡ true → bounds_hold (run_count t) a b ≡ false → fold_answer t a b room ≡ Err (Bounds b)
 unfolding fold_answer
 unbounded t a b room y n = rw (y, n)
 
 -- the cases of wide bounds: no frame; bounds that hold; bounds that don't
 pub data Wider (t : List ℕ) (a b room : ℕ) : Type 0 where
-  frameless : fold_answer t a b room ≡ FoldRefused TrayFrame → fold_answer t (narrowed a) (narrowed b) room ≡ FoldRefused TrayFrame → Wider t a b room
+  frameless : fold_answer t a b room ≡ Err TrayFrame → fold_answer t (narrowed a) (narrowed b) room ≡ Err TrayFrame → Wider t a b room
   holding : narrowed a ≡ a → narrowed b ≡ b → Wider t a b room
-  failing : fold_answer t a b room ≡ FoldRefused (Bounds b) → fold_answer t (narrowed a) (narrowed b) room ≡ FoldRefused (Bounds (narrowed b)) → Wider t a b room
+  failing : fold_answer t a b room ≡ Err (Bounds b) → fold_answer t (narrowed a) (narrowed b) room ≡ Err (Bounds (narrowed b)) → Wider t a b room
 
 wider : (t : List ℕ) (a b room : ℕ) → Wider t a b room
 wider t a b room =
@@ -184,16 +181,16 @@ wider t a b room =
     narrow-fails false e m n = e
 
 -- fold with wide runs answers as with the narrow ones, and 8 tells the wide b,
-pub fold-owned : (t : List ℕ) (a b room : ℕ) → fold_told (fold_answer t a b room) ≡ owned 8 b (fold_told (fold_answer t (narrowed a) (narrowed b) room))
-unfolding fold_told owned
+pub fold-owned : (t : List ℕ) (a b room : ℕ) → count_told (fold_answer t a b room) ≡ owned 8 b (count_told (fold_answer t (narrowed a) (narrowed b) room))
+unfolding count_told owned
 fold-owned t a b room = by (wider t a b room)
   where
-    by : Wider t a b room → fold_told (fold_answer t a b room) ≡ owned 8 b (fold_told (fold_answer t (narrowed a) (narrowed b) room))
+    by : Wider t a b room → count_told (fold_answer t a b room) ≡ owned 8 b (count_told (fold_answer t (narrowed a) (narrowed b) room))
     by (frameless p q) = rw (p, q) refl
     by (holding p q) =
         own-bounds t a b room (fold_answer t a b room) ((fold-says t a b room (fold_answer t a b room)).0 refl)
-        ∙ ap (λ (i : ℕ). owned 8 b (fold_told (fold_answer t i b room))) (sym p)
-        ∙ ap (λ (k : ℕ). owned 8 b (fold_told (fold_answer t (narrowed a) k room))) (sym q)
+        ∙ ap (λ (i : ℕ). owned 8 b (count_told (fold_answer t i b room))) (sym p)
+        ∙ ap (λ (k : ℕ). owned 8 b (count_told (fold_answer t (narrowed a) k room))) (sym q)
     by (failing p q) = rw (p, q) refl
 
 -- and leaves the same

@@ -2,8 +2,8 @@
 --     header-short, header-none, header-many, header-1, header-2, header-3     the header, test by test
 --     header_is                                what a header that fits says
 --     Counted, read-counts-none, read-counts-more      the counts and starts found so far
---     read-counts-over, read-counts-all                a count too high; all counts found
---     no-framing, header-wrong, opened         a frame that does not fit, and one that does
+--     over, no-header, not-long                a frame that does not fit
+--     as-long, frame_of                        one that does, and what it says
 --     Cut, cut                                 a run as the code cuts it out of the tray
 use Rattle.std.specs.Prelude.{◌≡◌, Bool, ◌&&◌, List, drop, set, leb, eqb}
 use Rattle.std.proofs.Math.Path.{refl, sym, ap, ap₂, subst}
@@ -14,10 +14,9 @@ use Rattle.std.proofs.Math.Bool.{true, false}
 use Rattle.std.proofs.Math.ListN.{length, get_or, take, length-set}
 use Rattle.std.proofs.Math.Seq.{get_or-set_same, get_or-set_other}
 use borrow.Author.Tests.{leb-true, le-leb, lt-leb, eqb-true, eqb-false, eq-eqb, ne_eqb}
-use Rattle.theory.specs.Tests.{cases, clash, and-true, and_left, and_right}
-use Rattle.tray.specs.declared.frame.TrayFrame.{TrayFrame}
-use Rattle.tray.specs.Frame.{run_count, count_of, start_of, header_fits, counts_fit, framed, Framing, Starts, Opened, run_bytes}
-use Rattle.tray.specs.Frame.Code.{NoFrame, Header}
+use Rattle.theory.specs.Tests.{cases, and-true, and_left, and_right}
+use Rattle.tray.specs.Frame.{run_count, count_of, start_of, header_fits, counts_fit, framed, FrameOf, Starts, run_bytes}
+use Rattle.tray.specs.Frame.Code.{Header}
 use Rattle.tray.specs.Frame.Laws.{framed-fits, length_run, start_of-le, start_of-within, counts_fit-not, start_of-zero, start_of-next, upto}
 
 -- equality may be tested either way round
@@ -53,12 +52,6 @@ module _ (t : List ℕ) where
 
           pub header-3 : get_or t 2 0 ≡ 0 → eqb (get_or t 3 0) 0 ≡ header_fits t
           header-3 zero-2 = sym (rest-is ∙ rw (eq-eqb (get_or t 1 0) 0 zero-1, eq-eqb (get_or t 2 0) 0 zero-2))
-
-  -- where the frame does not fit, nothing else is said
-  pub no-framing : {f : TrayFrame} → f.fits ≡ framed t → NoFrame f → Framing t f
-  no-framing e f =
-      let n = f.none in
-      record { room-counts = f.room-counts; room-starts = f.room-starts; fits = e; runs = λ y. clash (e ∙ y) n; counts = λ y. clash (e ∙ y) n; starts = λ y. clash (e ∙ y) n }
 
   pub header_is : header_fits t ≡ true → Header t
   unfolding header_fits run_count
@@ -121,54 +114,56 @@ module _ (t : List ℕ) where
         room-counts = simp length-set long-counts;
       })
 
-  -- a count above 4,096 breaks the frame
-  pub read-counts-over : {r n : ℕ} {f : TrayFrame} → r < get_or t 0 0 → n ≡ count_of t r → 4096 < n → NoFrame f → Framing t f
+  -- a count above 4,096 breaks the frame,
+  pub over : {r n : ℕ} → r < get_or t 0 0 → n ≡ count_of t r → 4096 < n → framed t ≡ false
   unfolding framed run_count
-  read-counts-over {r} {n} {f} l h over none =
+  over {r} {n} l h big =
       let high : 4096 < count_of t r = omega arith in
-      no-framing (none.none ∙ sym (out (header_fits t) _ (counts_fit-not t (get_or t 0 0) r l high))) none
+      out (header_fits t) _ (counts_fit-not t (get_or t 0 0) r l high)
     where
       out : (a : Bool) {b : Bool} (c : Bool) → b ≡ false → (a && (b && c)) ≡ false
       out true c p = rw p
       out false c p = refl
 
-  -- a header that does not fit breaks it too
-  pub header-wrong : {f : TrayFrame} → header_fits t ≡ false → NoFrame f → Framing t f
+  -- and so does a header that does not fit
+  pub no-header : header_fits t ≡ false → framed t ≡ false
   unfolding framed
-  header-wrong h none = no-framing (none.none ∙ sym (rw h)) none
+  no-header h = rw h
 
   -- all counts found: the length decides
-  pub read-counts-all : {counts starts : List ℕ} {at r h : ℕ} → header_fits t ≡ true → Counted counts starts at r → h ≡ get_or t 0 0 → h ≤ r
-      → Framing t (record { fits = eqb at (length t); runs = h; counts = counts; starts = starts })
-  unfolding framed run_count
-  read-counts-all {counts} {starts} {at} {r} {h} fits c e l =
-      let within : r ≤ get_or t 0 0 = c.within in
-      let all : r ≡ get_or t 0 0 = omega arith in
-      let ends : at ≡ start_of t (get_or t 0 0) = c.stands ∙ ap (start_of t) all in
-      let fit : counts_fit t (get_or t 0 0) ≡ true = ap (counts_fit t) (sym all) ∙ c.fit in
-      record {
-        fits = sym (rw (fits, fit) (ap (eqb (length t)) (sym ends) ∙ eqb-turned (length t) at));
-        room-counts = c.room-counts;
-        room-starts = c.room;
-        runs = λ y. e;
-        counts = λ y i k. c.counts-are i (subst (λ (n : ℕ). i < n) (sym all) k);
-        starts = λ y i k. c.starts-are i (subst (λ (n : ℕ). i < suc n) (sym all) (suc-le-suc k));
-      }
+  module _ {counts starts : List ℕ} {at r h : ℕ} (fits : header_fits t ≡ true) (c : Counted counts starts at r) (e : h ≡ get_or t 0 0) (l : h ≤ r) where
+    within-all : r ≤ get_or t 0 0
+    within-all = c.within
 
-  -- a frame that says it fits does
-  pub opened : {f : TrayFrame} → Framing t f → f.fits ≡ true → Opened t f
-  opened {f} g y =
-      let fits : framed t ≡ true = sym g.fits ∙ y in
-      let frame = framed-fits t fits in
-      let runs : f.runs ≡ run_count t = g.runs fits in
-      let most : run_count t ≤ 63 = frame.most-runs in
-      record {
-        runs = runs;
-        few = omega arith;
-        room = g.room-counts;
-        counts = g.counts fits;
-        at = record { frame = frame; few = most; room = g.room-starts; starts-are = g.starts fits };
-      }
+    all : r ≡ get_or t 0 0
+    all = let w : r ≤ get_or t 0 0 = within-all in omega arith
+
+    by-length : framed t ≡ eqb at (length t)
+    unfolding framed run_count
+    by-length =
+        let ends : at ≡ start_of t (get_or t 0 0) = c.stands ∙ ap (start_of t) all in
+        let fit : counts_fit t (get_or t 0 0) ≡ true = ap (counts_fit t) (sym all) ∙ c.fit in
+        rw (fits, fit) (ap (eqb (length t)) (sym ends) ∙ eqb-turned (length t) at)
+
+    pub not-long : (at ≡ length t → ⊥) → framed t ≡ false
+    not-long n = by-length ∙ ne_eqb at (length t) n
+
+    module _ (a : at ≡ length t) where
+      pub as-long : framed t ≡ true
+      as-long = by-length ∙ eq-eqb at (length t) a
+
+      pub frame_of : FrameOf t h counts starts
+      unfolding run_count
+      frame_of =
+          let frame = framed-fits t as-long in
+          let most : run_count t ≤ 63 = frame.most-runs in
+          record {
+            runs = e;
+            few = omega arith;
+            room = c.room-counts;
+            counts = λ i k. c.counts-are i (subst (λ (n : ℕ). i < n) (sym all) k);
+            at = record { frame = frame; few = most; room = c.room; starts-are = λ i k. c.starts-are i (subst (λ (n : ℕ). i < suc n) (sym all) (suc-le-suc k)) };
+          }
 
   -- run r as the code cuts it out of the tray
   pub record Cut (r a e : ℕ) : Type 0 where
@@ -195,21 +190,3 @@ module _ (t : List ℕ) where
         whole = ap length bytes ∙ length_run t o.frame r l;
         bytes = bytes;
       }
-
-  -- run r with its count
-  pub record CutRun (r a e n : ℕ) : Type 0 where
-    pub inside : r < run_count t
-    pub few : n ≤ 4096
-    pub records : n ≡ count_of t r
-    pub whole : length (take (e - a) (drop a t)) ≡ 25 * n
-    pub part : Cut r a e
-
-  pub cut-run : {f : TrayFrame} {r i : ℕ} → Opened t f → r < f.runs → i ≡ r
-      → CutRun r (get_or f.starts i 0) (get_or f.starts (i + 1) 0) (get_or f.counts i 0)
-  cut-run {f} {r} {i} o l e =
-      let runs : f.runs ≡ run_count t = o.runs in
-      let inside : r < run_count t = omega arith in
-      let k = cut o.at inside e in
-      let n : get_or f.counts i 0 ≡ count_of t r = ap (λ (j : ℕ). get_or f.counts j 0) e ∙ o.counts r inside in
-      let low : count_of t r ≤ 4096 = k.few in
-      record { inside = inside; few = omega arith; records = n; whole = k.whole ∙ ap (λ (j : ℕ). 25 * j) (sym n); part = k }

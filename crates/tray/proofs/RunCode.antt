@@ -5,7 +5,7 @@
 --     key-fine, key-bad                  a key, told by the last one
 --     key-is, last-next, run-kind, -key, -next, -live    a turn of the loop over a run
 --     value-is                           a value, written by its halves
-use Rattle.std.specs.Prelude.{◌≡◌, Bool, ◌||◌, List, ◌++◌, length, ltb}
+use Rattle.std.specs.Prelude.{◌≡◌, Bool, ◌||◌, List, ◌++◌, length, ltb, Err}
 use Rattle.std.proofs.Math.Path.{refl, ap}
 use Rattle.std.proofs.Common.{sym, ap₂, ◌∙◌, append-nil, drop_of_length-le, length-append}
 use Prim.Native.Nat.{ℕ, zero, suc, ◌+◌, ◌-◌, ◌*◌, ◌≤◌, ◌<◌}
@@ -18,7 +18,7 @@ use Rattle.number.specs.Big.{be, bytes_of, put}
 use Rattle.number.proofs.Big.Laws.{be-add, bytes_of-add, length-bytes_of}
 use Rattle.number.proofs.Big.Writes.{put-put}
 use Rattle.theory.specs.Tests.{cases, clash, or_left, or_right}
-use Rattle.tray.specs.declared.RunAnswer.TheVariants.{WrongKind, WrongKey}
+use Rattle.tray.specs.declared.Fault.TheVariants.{WrongKind, WrongKey}
 use Rattle.tray.specs.Run.{record_from, record_at, kind_wrong, key_wrong, place, judge_from}
 use Rattle.tray.specs.Run.Laws.{judge-kind, judge-key, judge-next}
 
@@ -120,11 +120,11 @@ module _ (run : List ℕ) where
       kind-is : kr ≡ not (kind_wrong (record_at run p))
       kind-is = told ∙ ap (λ (a : ℕ). not (kind_wrong (record_from run a))) stands
 
-      pub run-kind : kr ≡ false → judge_from (n - p) run p ≡ WrongKind (place p)
+      pub run-kind : kr ≡ false → judge_from (n - p) run p ≡ Err (WrongKind (place p))
       run-kind e = judge-kind run n p l (not-false _ (sym kind-is ∙ e))
 
       module _ {last key : ℕ} {yr : Bool} (right : kr ≡ true) (read : key ≡ be 8 run at) (before : Last p last) (told-key : yr ≡ (ltb last key || eqb p 0)) where
-        pub run-key : yr ≡ false → judge_from (n - p) run p ≡ WrongKey (place p)
+        pub run-key : yr ≡ false → judge_from (n - p) run p ≡ Err (WrongKey (place p))
         run-key e = judge-key run n p l (not-true _ (sym kind-is ∙ right)) (key-bad p (key-is read) before (sym told-key ∙ e))
 
         pub run-next : yr ≡ true → judge_from (n - p) run p ≡ judge_from (n - (p + 1)) run (p + 1)

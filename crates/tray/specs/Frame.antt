@@ -4,7 +4,6 @@ pub mod Code
 pub mod Laws
 use Rattle.std.specs.Prelude.{ℕ, zero, suc, ◌+◌, ◌-◌, ◌*◌, ◌≤◌, ◌<◌, ◌≡◌, Bool, true, ◌&&◌, List, length, get_or, take, drop, leb, eqb}
 use Rattle.number.specs.Big.{be}
-use Rattle.tray.specs.declared.frame.TrayFrame.{TrayFrame}
 
 -- H
 unfoldable pub run_count : List ℕ → ℕ
@@ -52,15 +51,6 @@ counts_fit t (suc r) = counts_fit t r && leb (count_of t r) 4096
 unfoldable pub framed : List ℕ → Bool
 framed t = header_fits t && (counts_fit t (run_count t) && eqb (length t) (start_of t (run_count t)))
 
--- what the frame that the library computes says of the tray
-pub record Framing (t : List ℕ) (f : TrayFrame) : Type 0 where
-  pub fits : f.fits ≡ framed t
-  pub room-counts : length f.counts ≡ 63
-  pub room-starts : length f.starts ≡ 64
-  pub runs : framed t ≡ true → f.runs ≡ run_count t
-  pub counts : framed t ≡ true → (r : ℕ) → r < run_count t → get_or f.counts r 0 ≡ count_of t r
-  pub starts : framed t ≡ true → (r : ℕ) → r ≤ run_count t → get_or f.starts r 0 ≡ start_of t r
-
 -- where the runs start, as the functions below a call ask for it
 pub record Starts (t starts : List ℕ) : Type 0 where
   pub frame : Framed t
@@ -68,10 +58,10 @@ pub record Starts (t starts : List ℕ) : Type 0 where
   pub room : length starts ≡ 64
   pub starts-are : (r : ℕ) → r ≤ run_count t → get_or starts r 0 ≡ start_of t r
 
--- a frame that fits, the same way
-pub record Opened (t : List ℕ) (f : TrayFrame) : Type 0 where
-  pub runs : f.runs ≡ run_count t
-  pub few : f.runs ≤ 63
-  pub room : length f.counts ≡ 63
-  pub counts : (r : ℕ) → r < run_count t → get_or f.counts r 0 ≡ count_of t r
-  pub at : Starts t f.starts
+-- what a frame that fits says: how many runs there are, how many records each has and where it starts
+pub record FrameOf (t : List ℕ) (n : ℕ) (counts-of starts-of : List ℕ) : Type 0 where
+  pub runs : n ≡ run_count t
+  pub few : n ≤ 63
+  pub room : length counts-of ≡ 63
+  pub counts : (r : ℕ) → r < run_count t → get_or counts-of r 0 ≡ count_of t r
+  pub at : Starts t starts-of

@@ -2,12 +2,12 @@
 -- record is wrong first: 3 before 2 at one record.
 pub mod Code
 pub mod Laws
-use Rattle.std.specs.Prelude.{ℕ, zero, suc, ◌+◌, ◌*◌, Bool, false, cond, ◌&&◌, ◌||◌, List, get_or, leb, ltb, eqb}
+use Rattle.std.specs.Prelude.{ℕ, zero, suc, ◌+◌, ◌*◌, Bool, false, cond, ◌&&◌, ◌||◌, List, get_or, leb, ltb, eqb, Ok, Err, Result}
 use Rattle.number.specs.Big.{be}
 use Rattle.theory.specs.Records.{Record}
 use Rattle.tray.specs.declared.Place.{Place}
-use Rattle.tray.specs.declared.RunAnswer.{RunAnswer}
-use Rattle.tray.specs.declared.RunAnswer.TheVariants.{Right, WrongKind, WrongKey}
+use Rattle.tray.specs.declared.Fault.{Fault}
+use Rattle.tray.specs.declared.Fault.TheVariants.{WrongKind, WrongKey}
 
 -- the record that starts at a byte
 unfoldable pub record_from : List ℕ → ℕ → Record
@@ -31,12 +31,12 @@ abbrev pub place : ℕ → Place
 place p = record { 0 = p }
 
 -- the first wrong one of the n records from place p on
-unfoldable pub judge_from : ℕ → List ℕ → ℕ → RunAnswer
-judge_from zero run p = Right
+unfoldable pub judge_from : ℕ → List ℕ → ℕ → Result (Unit {0}) Fault
+judge_from zero run p = Ok tt
 judge_from (suc n) run p =
     let next = judge_from n run (suc p) in
-    cond (kind_wrong (record_at run p)) (WrongKind (place p)) (cond (key_wrong run p) (WrongKey (place p)) next)
+    cond (kind_wrong (record_at run p)) (Err (WrongKind (place p))) (cond (key_wrong run p) (Err (WrongKey (place p))) next)
 
 -- the first wrong record of a run of n
-abbrev pub judge_run : ℕ → List ℕ → RunAnswer
+abbrev pub judge_run : ℕ → List ℕ → Result (Unit {0}) Fault
 judge_run n run = judge_from n run 0

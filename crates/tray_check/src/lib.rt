@@ -3,56 +3,44 @@
 
 pub mod run;
 
-ghost use Rattle.std.specs.Prelude.{◌≡◌};
-ghost use Rattle.tray.specs.Frame.{run_count, Opened};
-ghost use Rattle.tray.specs.Check.{check_runs, check_tray_answer};
+ghost use Rattle.std.specs.Prelude.{◌≡◌, ◌≤◌, Ok, Err};
+ghost use Rattle.tray.specs.Frame.{run_count};
+ghost use Rattle.tray.specs.Check.{after_run, check_runs, check_tray_answer};
 
 use crate::run::check_run;
-use number::{usize_of_u8, usize_of_u16};
 use refusal::Refusal;
-use tray::frame::{TrayFrame, tray_frame};
-use tray::{RunAnswer, TrayAnswer};
+use tray::{Fault, RunNo, Tray};
+
+// What is wrong with a run's record, as the tray's refusal: so many records stand before the run.
+fn refusal_of(fault: Fault, before: usize) -> Refusal
+    requires { before ≤ 258048 }
+    ensures { Err result ≡ after_run before (Err fault) (Ok 0) }
+{
+    match fault {
+        Fault::WrongKind(p) => Refusal::RecordKind((before + usize::from(p.0)) as u64),
+        Fault::WrongKey(p) => Refusal::KeyOrder((before + usize::from(p.0)) as u64),
+    }
+}
 
 // The records of all runs judged, run by run.
-fn check_runs(t: &[u8], f: TrayFrame) -> TrayAnswer
-    requires { Opened t.now f }
-    ensures { result ≡ check_runs (run_count t.now) t.now 0 }
+fn check_runs(tray: &Tray) -> Result<u64, Refusal>
+    ensures { result ≡ check_runs (run_count tray.now.bytes.now) tray.now.bytes.now 0 }
 {
-    let h = f.runs;
-    let counts = f.counts;
-    let starts = f.starts;
     let mut before: usize = 0;
-    let mut r: u8 = 0;
-    while r < h {
-        let i = usize_of_u8(r);
-        let n = counts[i];
-        let a = starts[i];
-        let e = starts[i + 1];
-        match check_run(&t[a..e], n) {
-            RunAnswer::Right => {
-                before += usize_of_u16(n);
-                r += 1;
-            }
-            RunAnswer::WrongKind(p) => {
-                return TrayAnswer::Refused(Refusal::RecordKind(
-                    (before + usize_of_u16(p.0)) as u64,
-                ));
-            }
-            RunAnswer::WrongKey(p) => {
-                return TrayAnswer::Refused(Refusal::KeyOrder((before + usize_of_u16(p.0)) as u64));
-            }
+    for r in 0..tray.runs {
+        let n = tray.count(RunNo(r));
+        if let Err(fault) = check_run(tray.run(RunNo(r)), n) {
+            return Err(refusal_of(fault, before));
         }
+        before += usize::from(n);
     }
-    TrayAnswer::Records(before as u64)
+    Ok(before as u64)
 }
 
 // Check tray: the records, or refusal 1, or 3 or 2 at the first wrong record.
-pub fn check_tray(t: &[u8]) -> TrayAnswer
+pub fn check_tray(t: &[u8]) -> Result<u64, Refusal>
     ensures { result ≡ check_tray_answer t.now }
 {
-    let f = tray_frame(t);
-    if f.fits {
-        return check_runs(t, f);
-    }
-    TrayAnswer::Refused(Refusal::TrayFrame)
+    let tray = Tray::open(t)?;
+    check_runs(&tray)
 }

@@ -3,18 +3,15 @@ ghost use Rattle.std.specs.Prelude.{◌≡◌, not, ◌||◌, ◌+◌, ◌*◌, 
 ghost use Rattle.number.specs.Big.{be};
 ghost use Rattle.tray.specs.Run.{record_from, kind_wrong, judge_run};
 
-use number::big8;
-use tray::{Place, RunAnswer};
+use number::BigEndian;
+use tray::{Fault, Place};
 
 // Whether 16 bytes are all zero.
 fn value_is_zero(run: &[u8], at: usize) -> bool
     requires { at + 16 ≤ length run.now }
     ensures { result ≡ eqb (be 16 run.now at) 0 }
 {
-    if big8(run, at) == 0 {
-        return big8(run, at + 8) == 0;
-    }
-    false
+    u64::read(run, at) == 0 && u64::read(run, at + 8) == 0
 }
 
 // Whether a record's kind is known and, where it is gone, its value zero.
@@ -22,55 +19,41 @@ fn kind_right(run: &[u8], at: usize) -> bool
     requires { at + 25 ≤ length run.now }
     ensures { result ≡ not (kind_wrong (record_from run.now at)) }
 {
-    let kind = run[at + 8];
-    if kind == 0 {
-        return true;
+    match run[at + 8] {
+        0 => true,
+        1 => value_is_zero(run, at + 9),
+        _ => false,
     }
-    if kind == 1 {
-        return value_is_zero(run, at + 9);
-    }
-    false
 }
 
 // Whether a key is above the last one; the first record of a run is above nothing.
 fn key_right(last: u64, key: u64, p: u16) -> bool
     ensures { result ≡ (ltb last key || eqb p 0) }
 {
-    if last < key {
-        return true;
-    }
-    p == 0
+    last < key || p == 0
 }
 
 // The first wrong record of a run of n, its kind before its key.
-pub fn check_run(run: &[u8], n: u16) -> RunAnswer
+pub fn check_run(run: &[u8], n: u16) -> Result<(), Fault>
     requires { length run.now ≡ 25 * n }
     ensures { result ≡ judge_run n run.now }
 {
-    let mut p: u16 = 0;
-    let mut at: usize = 0;
     let mut last: u64 = 0;
-    while p < n {
-        let key = big8(run, at);
+    for p in 0..n {
+        let at = 25 * usize::from(p);
+        let key = u64::read(run, at);
         // Most records are live and above the last one: told first, so that the loop has one jump for them.
-        if run[at + 8] == 0 {
-            if key > last {
-                last = key;
-                at += 25;
-                p += 1;
-                continue;
-            }
+        if run[at + 8] == 0 && key > last {
+            last = key;
+            continue;
         }
-        if kind_right(run, at) {
-            if key_right(last, key, p) {
-                last = key;
-                at += 25;
-                p += 1;
-                continue;
-            }
-            return RunAnswer::WrongKey(Place(p));
+        if !kind_right(run, at) {
+            return Err(Fault::WrongKind(Place(p)));
         }
-        return RunAnswer::WrongKind(Place(p));
+        if !key_right(last, key, p) {
+            return Err(Fault::WrongKey(Place(p)));
+        }
+        last = key;
     }
-    RunAnswer::Right
+    Ok(())
 }

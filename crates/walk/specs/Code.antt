@@ -7,12 +7,11 @@
 --     Selecting, selectors-end, selectors-pass, selectors-lost, selectors-stay, selectors-go    the loop over selectors
 pub mod Load
 pub mod Moves
-pub mod Numbers
 pub mod Turns
 pub mod Seek
 pub mod Stayed
 pub mod Inside
-use Rattle.std.specs.Prelude.{◌≡◌, refl, true, false, cond, length, get_or, set, eqb}
+use Rattle.std.specs.Prelude.{◌≡◌, refl, true, false, cond, length, get_or, set, eqb, Result, Ok, Err, Option, Some, None}
 use Rattle.std.proofs.Math.Path.{sym, ap}
 use Rattle.std.proofs.Common.{ap₂, ◌∙◌, eq-eqb, ne_eqb}
 use Prim.Native.Nat.{ℕ, zero, suc, ◌+◌, ◌-◌, ◌≤◌, ◌<◌}
@@ -25,10 +24,9 @@ use Rattle.tray.specs.Frame.{run_count, count_of}
 use Rattle.index.specs.Layout.{size_of}
 use Rattle.index.specs.Scan.{run_in, raise}
 use Rattle.walk.specs.declared.cursor.Cursor.{Cursor}
-use Rattle.walk.specs.declared.cursor.Sight.{Sight}
-use Rattle.walk.specs.declared.cursor.Sight.TheVariants.{Found as FoundAt, End, Lost}
-use Rattle.walk.specs.declared.cursor.Sought.{Sought}
-use Rattle.walk.specs.Start.Code.{Probing}
+use Rattle.walk.specs.declared.cursor.Sighting.{Sighting}
+use Rattle.walk.specs.declared.cursor.Lost.{Lost}
+use Rattle.index.specs.Layout.Code.{Laid}
 use Rattle.walk.specs.Walk.{Spot, Visit, stay, go, Walked, stayed, ended, lost, selector_at, loaded, named, walk_selectors, walk_segments}
 use Rattle.walk.specs.Reads.{Found}
 
@@ -98,20 +96,17 @@ pub record Walking (t x : List ℕ) (h d n : ℕ) (counts : List ℕ) : Type 0 w
   pub few : h ≤ 63
   pub room : length counts ≡ 63
   pub counts-are : (r : ℕ) → r < run_count t → get_or counts r 0 ≡ count_of t r
-  pub index : Probing x h d n
+  pub index : Laid x h d n
 
 -- a cursor as the definitions have it
 unfoldable pub spot_of : Cursor → Spot
 spot_of c = record { segment = c.segment.0; selector = c.selector; places = numbers c.places }
 
--- what a seek's answer says
-unfoldable pub sought_as : Sight → Spot → Walked ℕ Found
-sought_as (FoundAt run place) c = stayed (record { run = run.0; place = place.0; spot = c })
-sought_as End c = ended 0
-sought_as (Lost g s) c = lost g s 0
-
-unfoldable pub sought_of : Sought → Walked ℕ Found
-sought_of r = sought_as r.sight (spot_of r.cursor)
+-- what a walk for a record comes to
+unfoldable pub sought_of : Result (Option Sighting) Lost → Walked ℕ Found
+sought_of (Ok (Some f)) = stayed (record { run = f.run.0; place = f.place.0; spot = spot_of f.cursor })
+sought_of (Ok None) = ended 0
+sought_of (Err l) = lost l.segment l.selector 0
 
 -- what comes after a visit
 unfoldable pub after-visit : {S R : Type 0} → Visit S R → (S → Walked S R) → Walked S R

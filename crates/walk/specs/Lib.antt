@@ -8,3 +8,5 @@ pub mod Code
 pub mod Walk
 -- cursors, seek, get, next, page and sheet: walks with their visitors
 pub mod Reads
+-- what the opening of a tray and its index promises
+pub mod Opens

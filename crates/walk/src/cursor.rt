@@ -1,11 +1,13 @@
 // The cursor of a walk: segment, selector, and how far each of 63 runs has been read.
 ghost use Rattle.std.specs.Prelude.{◌≡◌, ◌+◌, ◌*◌, ◌≤◌, ◌<◌, length, get_or};
+ghost use Rattle.refusal.specs.declared.Refusal.TheVariants.{Lost as LostAt};
 ghost use Rattle.walk.specs.Code.{placed, numbers, spot_of};
-ghost use Rattle.walk.specs.Code.Moves.{past_gap, past_record};
+ghost use Rattle.walk.specs.Code.Moves.{past_gap, past_record, end_at};
 ghost use Rattle.walk.specs.Code.Load.{loaded_from};
 
 use index::SegmentNo;
-use number::{big2, usize_of_u8};
+use number::BigEndian;
+use refusal::Refusal;
 use tray::{Place, RunNo};
 
 #[derive(Clone, Copy)]
@@ -17,6 +19,17 @@ pub struct Cursor {
 
 // The moves of a cursor over a selector: each hands back the moved cursor.
 impl Cursor {
+    // The end of an index of n segments.
+    pub fn end(n: u32) -> Cursor
+        ensures { result ≡ end_at n }
+    {
+        Cursor {
+            segment: SegmentNo(n),
+            selector: 0,
+            places: [Place(0); 63],
+        }
+    }
+
     // Past a placeholder.
     pub fn past_gap(mut self) -> Cursor
         requires { self.selector < 255 }
@@ -32,7 +45,7 @@ impl Cursor {
         ensures { spot_of result ≡ past_record (spot_of self) r.0 }
     {
         let n = r.0;
-        let i = usize_of_u8(n);
+        let i = usize::from(n);
         let p = self.places[i];
         self.places[i] = Place(p.0 + 1);
         self.selector += 1;
@@ -40,62 +53,40 @@ impl Cursor {
     }
 }
 
-// The places of a cursor as numbers: a copy that is lent where a cursor would be copied again for each function.
-pub fn place_numbers(places: [Place; 63]) -> [u16; 63]
-    ensures { result ≡ numbers places }
-{
-    let mut ps = [0u16; 63];
-    let mut i: usize = 0;
-    while i < 63 {
-        let p = places[i];
-        ps[i] = p.0;
-        i += 1;
-    }
-    ps
-}
-
-// Where a walk ends: at a record, at the end, or lost at a selector of a segment.
+// A record where a walk stays, and the cursor that stands there.
 #[derive(Clone, Copy)]
-pub enum Sight {
-    Found(RunNo, Place),
-    End,
-    Lost(u32, u32),
-}
-
-// The end of a walk with its cursor.
-#[derive(Clone, Copy)]
-pub struct Sought {
-    pub sight: Sight,
+pub struct Sighting {
+    pub run: RunNo,
+    pub place: Place,
     pub cursor: Cursor,
 }
 
-// The places on entering the segment that starts at a byte: its offsets, and 0 for runs that the tray has not.
-pub fn load(x: &[u8], at: usize, h: u8) -> [Place; 63]
-    requires { (at + 8 + 2 * h ≤ length x.now) × (h ≤ 63) }
-    ensures { numbers result ≡ loaded_from h x.now at }
-{
-    let mut places = [Place(0); 63];
-    let mut r = usize_of_u8(h);
-    while 0 < r {
-        r -= 1;
-        places[r] = Place(big2(x, at + 8 + 2 * r));
-    }
-    places
+// Where a walk is lost: a segment and a selector.
+#[derive(Clone, Copy, PartialEq, Eq)]
+pub struct Lost {
+    pub segment: u32,
+    pub selector: u32,
 }
 
-// The same into numbers that are lent: where they are used at once, so that none are copied.
-pub fn reload(x: &[u8], at: usize, h: u8, places: &mut [u16])
-    requires { (at + 8 + 2 * h ≤ length x.now) × (h ≤ 63) × (length places.old ≡ 63) }
-    ensures { places.new ≡ loaded_from h x.now at }
-{
-    let mut i: usize = 0;
-    while i < 63 {
-        places[i] = 0;
-        i += 1;
+// Refusal 10.
+impl From<Lost> for Refusal {
+    ghost from_gives = { λ l r. r ≡ LostAt l.segment l.selector };
+
+    fn from(l: Lost) -> Refusal {
+        Refusal::Lost(l.segment, l.selector)
     }
-    let mut r = usize_of_u8(h);
-    while 0 < r {
-        r -= 1;
-        places[r] = big2(x, at + 8 + 2 * r);
+}
+
+// The places on entering the segment that starts at a byte: its offsets, and 0 for runs that the tray has not. They are lent, so that none are copied.
+pub fn load(x: &[u8], at: usize, h: u8, places: &mut [Place; 63])
+    requires { (at + 8 + 2 * h ≤ length x.now) × (h ≤ 63) }
+    ensures { numbers places.new ≡ loaded_from h x.now at }
+{
+    let runs = usize::from(h);
+    for r in 0..runs {
+        places[r] = Place(u16::read(x, at + 8 + 2 * r));
+    }
+    for i in runs..63 {
+        places[i] = Place(0);
     }
 }

@@ -1,34 +1,29 @@
 -- Whether a cursor belongs, as the code computes it: places past the tray's runs by the highest, the others by a tally of the selectors.
---     higher_of, none_for, none-turn, none_end     some places in a row are 0
---     selectors_from, Tallied, tally-none, tally-more     how many selectors name each run
---     wanted_at, wanted-is                        the places that a cursor must have
---     zeros-hold, zeros-fail, places-are         all places at once
---     end-told, stands-told, off-segment         whether the cursor belongs
+--     none_for, none-turn, none_end                       some places in a row are 0
+--     selectors_from, Tallied, tally-none .. tally-more    how many selectors name each run
+--     wanted_at, wanted-run, wanted-is                    the places that a cursor must have
+--     same-off, none-same, none-off                       all places at once
+--     stands-told, stands-off                             whether it stands at a selector of a segment
+--     belongs-there .. belongs-end                        whether the cursor belongs
 use Rattle.std.specs.Prelude.{◌≡◌, Bool, true, false, ◌&&◌, ◌||◌, List, length, set, replicate, eqb, ltb}
 use Rattle.std.proofs.Math.Path.{refl, sym, ap, ap₂}
-use Rattle.std.proofs.Common.{◌∙◌, subst, add-zero, add-suc, add-one, length-set, get_or-set_same, get_or-set_other}
-use Prim.Native.Nat.{ℕ, zero, suc, ◌+◌, ◌-◌, ◌*◌, ◌%◌, ◌≤◌, ◌<◌}
+use Rattle.std.proofs.Common.{◌∙◌, add-zero, add-suc, add-one, length-set, get_or-set_same, get_or-set_other}
+use Prim.Native.Nat.{max, ℕ, zero, suc, ◌+◌, ◌-◌, ◌*◌, ◌%◌, ◌≤◌, ◌<◌}
 use native.Mathlib.Omega.{arith}
 use Rattle.std.proofs.Math.Nat.{zero-add}
 use Rattle.std.proofs.Math.Bool.{cond}
 use Rattle.std.proofs.Math.ListN.{get_or, get_or-replicate}
-use borrow.Author.Tests.{eq-eqb, ne_eqb, lt-ltb, le-ltb, eqb-true, eqb-false, ltb-true, ltb-false}
+use borrow.Author.Tests.{eq-eqb, ne_eqb, lt-ltb, le-ltb, eqb-true, eqb-false, ltb-true}
 use Rattle.theory.specs.Tests.{cases, never, order, and_left, and_right}
 use Rattle.theory.specs.Listed.{listed}
 use Rattle.theory.proofs.Listed.Laws.{listed_same}
 use Rattle.index.specs.Layout.{head_size, size_of, segment_count, segment_at, offset_from}
-use Rattle.index.specs.Layout.Code.{segment_at-next, segment_at-le}
+use Rattle.index.specs.Layout.Code.{Laid}
 use Rattle.index.specs.Layout.Laws.{get_or-listed}
 use Rattle.index.specs.Scan.{run_in}
 use Rattle.index.specs.Scan.Code.{same_to, same_next}
-use Rattle.walk.specs.Start.Code.{Probing}
 use Rattle.walk.specs.Walk.{Spot}
 use Rattle.walk.specs.Reads.{selectors_of, places_at, same_places, belongs}
-
--- the first r places are copied as numbers
--- the higher of two numbers
-abbrev pub higher_of : ℕ → ℕ → ℕ
-higher_of a b = cond (ltb a b) b a
 
 -- the k places from place r on are 0
 unfoldable pub none_for : ℕ → List ℕ → ℕ → Bool
@@ -36,38 +31,27 @@ none_for zero ps r = true
 none_for (suc k) ps r = eqb (get_or ps r 0) 0 && none_for k ps (r + 1)
 
 -- the higher of two is 0 where both are
-higher-none : (a b : ℕ) → eqb (higher_of a b) 0 ≡ (eqb a 0 && eqb b 0)
+higher-none : (a b : ℕ) → eqb (max a b) 0 ≡ (eqb a 0 && eqb b 0)
 higher-none a b =
-    cases (ltb a b)
+    cases (eqb a 0)
     (λ y.
-    let l : a < b = ltb-true a b y in
-    let off : eqb b 0 ≡ false = ne_eqb b 0 (λ z. omega arith) in
-    rw (y, off) (sym (and-off (eqb a 0))))
-    (λ n.
-    let l : b ≤ a = ltb-false a b n in
-    rw n (below l))
-  where
-    and-off : (c : Bool) → (c && false) ≡ false
-    and-off true = refl
-    and-off false = refl
-
-    below : b ≤ a → eqb a 0 ≡ (eqb a 0 && eqb b 0)
-    below l =
-        cases (eqb a 0)
-        (λ y. let z : a ≡ 0 = eqb-true a 0 y in let on : eqb b 0 ≡ true = eq-eqb b 0 (omega arith) in rw (y, on))
-        (λ n. rw n)
+    let z : a ≡ 0 = eqb-true a 0 y in
+    rw y (cases (eqb b 0)
+    (λ w. let u : b ≡ 0 = eqb-true b 0 w in rw w (eq-eqb (max a b) 0 (omega arith)))
+    (λ n. let u = eqb-false b 0 n in rw n (ne_eqb (max a b) 0 (λ k. u (omega arith))))))
+    (λ n. let u = eqb-false a 0 n in rw n (ne_eqb (max a b) 0 (λ k. u (omega arith))))
 
 and_assoc : (a b c : Bool) → ((a && b) && c) ≡ (a && (b && c))
 and_assoc true b c = refl
 and_assoc false b c = refl
 
 -- the highest so far, and the places after it
-pub none-turn : (ps : List ℕ) (top : ℕ) {r m : ℕ} → r < 63 → m ≡ higher_of top (get_or ps r 0)
-    → (eqb m 0 && none_for (63 - (r + 1)) ps (r + 1)) ≡ (eqb top 0 && none_for (63 - r) ps r)
+pub none-turn : (ps : List ℕ) (top : ℕ) {r next m : ℕ} → next ≡ r + 1 → r < 63 → m ≡ max top (get_or ps r 0)
+    → (eqb m 0 && none_for (63 - next) ps next) ≡ (eqb top 0 && none_for (63 - r) ps r)
 unfolding none_for
-none-turn ps top {r} {m} l e =
+none-turn ps top {r} {next} {m} n l e =
     let z : 63 - r ≡ suc (63 - (r + 1)) = omega arith in
-    rw z
+    rw (n, z)
     (ap (λ (b : Bool). b && none_for (63 - (r + 1)) ps (r + 1)) (ap (λ (k : ℕ). eqb k 0) e ∙ higher-none top (get_or ps r 0))
     ∙ and_assoc (eqb top 0) (eqb (get_or ps r 0) 0) (none_for (63 - (r + 1)) ps (r + 1)))
 
@@ -145,9 +129,6 @@ module _ {x : List ℕ} {first s : ℕ} {seen : List ℕ} (c : Tallied x first s
             ∙ sym (selectors-step x first i s ∙ rw none (add-zero (selectors_from x first i s))));
       }
 
-  pub tally-all : {k : ℕ} → s ≤ k → k ≤ s → Tallied x first k seen
-  tally-all {k} l m = let z : s ≡ k = omega arith in subst (λ (i : ℕ). Tallied x first i seen) z c
-
 -- the places that a cursor must have, by a tally, for the segment that starts at a byte
 unfoldable pub wanted_at : ℕ → List ℕ → ℕ → List ℕ → List ℕ
 wanted_at h x at seen = listed 63 0 (λ r. cond (ltb r h) (offset_from x at r + get_or seen r 0) 0)
@@ -165,7 +146,7 @@ wanted-past : (h : ℕ) (x : List ℕ) (at : ℕ) (seen : List ℕ) (r : ℕ) �
 wanted-past h x at seen r m l = wanted-get h x at seen r l ∙ rw (le-ltb r h m)
 
 -- they are those of docs/RULES.md, "Cursor"
-module _ {h : ℕ} {x : List ℕ} {d n : ℕ} (p : Probing x h d n) (g : ℕ) {at first : ℕ} (a : at ≡ segment_at h d g) (f : first ≡ at + 8 + 2 * h) where
+module _ {h : ℕ} {x : List ℕ} {d n : ℕ} (p : Laid x h d n) (g : ℕ) {at first : ℕ} (a : at ≡ segment_at h d g) (f : first ≡ at + 8 + 2 * h) where
   tallies : (r k : ℕ) → selectors_from x first r k ≡ selectors_of h x g r k
   unfolding selectors_from selectors_of head_size
   tallies r zero = refl
@@ -194,7 +175,7 @@ same_rest xs ys h (suc k) all =
     same_next xs ys (omega arith) (omega arith) (all (h + k) (omega arith) (omega arith)) ∙ same_rest xs ys h k (λ r l m. all r l (omega arith))
 
 -- and where one of them is not
-same-off : (xs ys : List ℕ) (k i : ℕ) → i < k → (get_or xs i 0 ≡ get_or ys i 0 → ⊥) → same_to xs ys k ≡ false
+pub same-off : (xs ys : List ℕ) (k i : ℕ) → i < k → (get_or xs i 0 ≡ get_or ys i 0 → ⊥) → same_to xs ys k ≡ false
 unfolding same_to
 same-off xs ys zero i l off = absurd (omega arith)
 same-off xs ys (suc k) i l off =
@@ -237,14 +218,6 @@ module _ (ps qs : List ℕ) (h : ℕ) (few : h ≤ 63) (none : (r : ℕ) → h �
       let low : s.0 < 63 = omega (arith, s.2) in
       sym (same-off ps qs 63 s.0 low (λ e. s.3 (e ∙ none s.0 s.1 low)))
 
--- a segment lies in the index
-pub segment-inside : {h : ℕ} {x : List ℕ} {d n : ℕ} → Probing x h d n → {g at : ℕ} → g < n → at ≡ segment_at h d g → at + 8 + 2 * h + d ≤ length x
-segment-inside {h} {x} {d} {n} p {g} {at} l e =
-    let ends : segment_at h d (suc g) ≤ segment_at h d n = segment_at-le h d (suc g) n l in
-    let next : segment_at h d (suc g) ≡ segment_at h d g + (8 + 2 * h + d) = segment_at-next h d g in
-    let whole : length x ≡ segment_at h d n = p.whole in
-    omega arith
-
 -- numbers that differ among the first h differ among more
 same-far : (xs ys : List ℕ) (h k : ℕ) → same_to xs ys h ≡ false → same_to xs ys (h + k) ≡ false
 unfolding same_to
@@ -256,7 +229,7 @@ same-far xs ys h (suc k) e = rw (add-suc, same-far xs ys h k e) (and-off (eqb (g
     and-off false = refl
 
 -- a cursor stands at a selector of a segment
-module _ {h : ℕ} {x : List ℕ} {d m : ℕ} (p : Probing x h d m) (few : h ≤ 63) (ps : List ℕ) (g s : ℕ) {at first : ℕ} {seen : List ℕ} {b : Bool} (a : at ≡ segment_at h d g)
+module _ {h : ℕ} {x : List ℕ} {d m : ℕ} (p : Laid x h d m) (few : h ≤ 63) (ps : List ℕ) (g s : ℕ) {at first : ℕ} {seen : List ℕ} {b : Bool} (a : at ≡ segment_at h d g)
     (f : first ≡ at + 8 + 2 * h) (c : Tallied x first s seen) (told : b ≡ same_to ps (wanted_at h x at seen) h) where
   past : (r : ℕ) → h ≤ r → r < 63 → get_or (places_at h x g s) r 0 ≡ 0
   unfolding places_at
@@ -285,7 +258,7 @@ module _ {h : ℕ} {x : List ℕ} {d m : ℕ} (p : Probing x h d m) (few : h ≤
       sym (ap (same_to ps (places_at h x g s)) (sym z) ∙ same-far ps (places_at h x g s) h (63 - h) (sym held ∙ n))
 
 -- a cursor belongs
-module _ {h : ℕ} {x : List ℕ} {d n : ℕ} (p : Probing x h d n) (c : Spot) where
+module _ {h : ℕ} {x : List ℕ} {d n : ℕ} (p : Laid x h d n) (c : Spot) where
   module _ (inside : c.segment < n) where
     count : n ≡ segment_count x
     count = p.count
@@ -307,35 +280,37 @@ module _ {h : ℕ} {x : List ℕ} {d n : ℕ} (p : Probing x h d n) (c : Spot) w
     unfolding belongs
     belongs-past l = let k = size in sym (rw (not_end, in-index, le-ltb c.selector (size_of x) (omega arith)))
 
-  module _ (outside : n ≤ c.segment) where
-    off-index : ltb c.segment (segment_count x) ≡ false
-    off-index = let k = p.count in le-ltb c.segment (segment_count x) (omega arith)
+  off-index : n ≤ c.segment → ltb c.segment (segment_count x) ≡ false
+  off-index l = let k = p.count in le-ltb c.segment (segment_count x) (omega arith)
 
-    or_off : (b : Bool) → (b || false) ≡ b
-    or_off true = refl
-    or_off false = refl
+  pub belongs-beyond : n < c.segment → false ≡ belongs h x c
+  unfolding belongs
+  belongs-beyond l = let k = p.count in sym (rw (off-index (omega arith), ne_eqb c.segment (segment_count x) (λ z. omega arith)))
 
-    pub belongs-beyond : (c.segment ≡ n → ⊥) → false ≡ belongs h x c
+  module _ (there : c.segment ≡ n) where
+    at-end : eqb c.segment (segment_count x) ≡ true
+    at-end = eq-eqb c.segment (segment_count x) (there ∙ p.count)
+
+    off-end : ltb c.segment (segment_count x) ≡ false
+    off-end = off-index (omega arith)
+
+    pub belongs-inner : (c.selector ≡ 0 → ⊥) → false ≡ belongs h x c
     unfolding belongs
-    belongs-beyond off = sym (rw (off-index, ne_eqb c.segment (segment_count x) (λ z. off (z ∙ sym p.count))))
+    belongs-inner off = sym (rw (off-end, at-end, ne_eqb c.selector 0 off))
 
-    module _ (there : c.segment ≡ n) where
-      at-end : eqb c.segment (segment_count x) ≡ true
-      at-end = eq-eqb c.segment (segment_count x) (there ∙ p.count)
+    pub belongs-end : {b : Bool} → c.selector ≡ 0 → b ≡ none_for 63 c.places 0 → b ≡ belongs h x c
+    unfolding belongs same_to
+    belongs-end {b} z e =
+        cases b
+        (λ y. y ∙ none-same c.places (replicate 63 0) 0 (omega arith) zeros e y ∙ whole)
+        (λ n. n ∙ none-off c.places (replicate 63 0) 0 (omega arith) zeros e n ∙ whole)
+      where
+        zeros : (r : ℕ) → 0 ≤ r → r < 63 → get_or {A = ℕ} (replicate 63 0) r 0 ≡ 0
+        zeros r a l = get_or-replicate 63 r 0 0 l
 
-      pub belongs-inner : (c.selector ≡ 0 → ⊥) → false ≡ belongs h x c
-      unfolding belongs
-      belongs-inner off = sym (rw (off-index, at-end, ne_eqb c.selector 0 off))
+        or_off : (b : Bool) → (b || false) ≡ b
+        or_off true = refl
+        or_off false = refl
 
-      pub belongs-end : {b : Bool} → c.selector ≡ 0 → b ≡ none_for 63 c.places 0 → b ≡ belongs h x c
-      unfolding belongs same_to
-      belongs-end {b} z e =
-          cases b
-          (λ y. y ∙ none-same c.places (replicate 63 0) 0 (omega arith) zeros e y ∙ whole)
-          (λ n. n ∙ none-off c.places (replicate 63 0) 0 (omega arith) zeros e n ∙ whole)
-        where
-          zeros : (r : ℕ) → 0 ≤ r → r < 63 → get_or {A = ℕ} (replicate 63 0) r 0 ≡ 0
-          zeros r a l = get_or-replicate 63 r 0 0 l
-
-          whole : same_places c.places (replicate 63 0) ≡ belongs h x c
-          whole = sym (rw (off-index, at-end, eq-eqb c.selector 0 z) (or_off (same_places c.places (replicate 63 0))))
+        whole : same_places c.places (replicate 63 0) ≡ belongs h x c
+        whole = sym (rw (off-end, at-end, eq-eqb c.selector 0 z) (or_off (same_places c.places (replicate 63 0))))

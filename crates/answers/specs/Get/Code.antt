@@ -1,57 +1,41 @@
 -- What the code of get needs of the definitions.
---     value_if, nothing_at            what the code's parts answer
---     InTray, seek-named            a record found is one of the tray's
---     came                          what the code's walk hands over is where the seek came to
---     got-value, got-nothing        what get came to
-use Rattle.std.specs.Prelude.{◌≡◌, ◌⊎◌, cond, ◌&&◌, List, get_or, eqb, leb, ltb}
-use Rattle.std.proofs.Math.Path.{refl, sym, ap, ap₂}
-use Rattle.std.proofs.Common.{◌∙◌, subst, inl, inr, arith, ltb-true, eq-eqb, ne_eqb}
+--     value_if, value-there, value-other     what a record found answers
+--     InTray, seek-named, seek-there     a record found is one of the tray's
+--     got-value, got-none, got-lost      what get came to
+use Rattle.std.specs.Prelude.{◌≡◌, cond, ◌&&◌, List, get_or, eqb, leb, ltb, Ok, Err, Some, None}
+use Rattle.std.proofs.Math.Path.{sym, ap}
+use Rattle.std.proofs.Common.{◌∙◌, subst, arith, ltb-true, eq-eqb, ne_eqb}
 use Prim.Native.Nat.{ℕ, ◌+◌, ◌-◌, ◌<◌}
 use Rattle.theory.specs.Tests.{cases, and_left, and_right, never}
-use Rattle.tray.specs.declared.Place.{Place}
-use Rattle.tray.specs.declared.RunNo.{RunNo}
 use Rattle.tray.specs.Frame.{run_count, count_of, run_bytes}
 use Rattle.tray.specs.Run.{record_at}
 use Rattle.refusal.specs.declared.Refusal.TheVariants.{Lost}
 use Rattle.number.specs.Big.{bytes_of}
+use Rattle.index.specs.Layout.{segment_count}
 use Rattle.index.specs.Scan.{run_in}
-use Rattle.walk.specs.declared.cursor.Sight.{Sight}
-use Rattle.walk.specs.declared.cursor.Sight.TheVariants.{Found as SightFound, End as SightEnd, Lost as SightLost}
-use Rattle.walk.specs.declared.cursor.Sought.{Sought}
-use Rattle.answers.specs.declared.ValueAnswer.{ValueAnswer}
-use Rattle.answers.specs.declared.GetAnswer.TheVariants.{Found as GetFound, Absent}
+use Rattle.walk.specs.declared.cursor.Sighting.{Sighting}
+use Rattle.walk.specs.declared.cursor.Lost.{Lost as LostAt}
 use Rattle.walk.specs.Start.{start}
 use Rattle.walk.specs.Walk.{Spot, Visit, stay, go, Walked, stayed, named, walk_segments}
 use Rattle.walk.specs.Reads.{Found, unmarked, record_by, found_by, seek_visit, seek, value, absent, got_from, get}
-use Rattle.walk.specs.Code.{Walking, spot_of, sought_as, sought_of}
+use Rattle.walk.specs.Code.{sought_of}
 use Rattle.walk.specs.Code.Stayed.{Stands, segments-stayed}
-use Rattle.answers.specs.Get.{valueless, refused_get, got_told, get_framed}
+use Rattle.answers.specs.Get.{Value, got_told, get_framed}
 
 -- the value of the record at a place, where its key is the one asked for
-unfoldable pub value_if : List ℕ → ℕ → ℕ → ℕ → ValueAnswer
+unfoldable pub value_if : List ℕ → ℕ → ℕ → ℕ → Value
 value_if t run place key = let e = record_at (run_bytes t run) place in got_told (cond (eqb e.key key) (value e.value) absent)
 
-pub value_there : (t : List ℕ) (run place key : ℕ) {k : ℕ} {bytes : List ℕ} → k ≡ (record_at (run_bytes t run) place).key → k ≡ key
-    → bytes ≡ bytes_of 16 (record_at (run_bytes t run) place).value → record { answer = GetFound; value = bytes } ≡ value_if t run place key
+pub value-there : (t : List ℕ) (run place key : ℕ) {k : ℕ} {bytes : List ℕ} → k ≡ (record_at (run_bytes t run) place).key → k ≡ key
+    → bytes ≡ bytes_of 16 (record_at (run_bytes t run) place).value → Ok (Some bytes) ≡ value_if t run place key
 unfolding value_if got_told
-value_there t run place key e y b =
-    ap (λ (bs : List ℕ). record { answer = GetFound; value = bs }) b
+value-there t run place key e y b =
+    ap (λ (bs : List ℕ). Ok (Some bs)) b
     ∙ sym (rw (eq-eqb (record_at (run_bytes t run) place).key key (sym e ∙ y)))
 
-pub value-other : (t : List ℕ) (run place key : ℕ) {k : ℕ} → k ≡ (record_at (run_bytes t run) place).key → (k ≡ key → ⊥) → valueless Absent ≡ value_if t run place key
+pub value-other : (t : List ℕ) (run place key : ℕ) {k : ℕ} → k ≡ (record_at (run_bytes t run) place).key → (k ≡ key → ⊥) → Ok None ≡ value_if t run place key
 unfolding value_if got_told
 value-other t run place key e n = sym (rw (ne_eqb (record_at (run_bytes t run) place).key key (λ z. n (e ∙ z))))
-
--- a seek that found nothing
-unfoldable pub nothing_at : Sight → ValueAnswer
-nothing_at (SightFound run place) = valueless Absent
-nothing_at SightEnd = valueless Absent
-nothing_at (SightLost g s) = refused_get (Lost g s)
-
--- the number of a found seek is neither of the others'
-pub not_found : ◌≡◌ {A = ℕ} 0 1 ⊎ ◌≡◌ {A = ℕ} 0 2 → ⊥
-not_found (inl z) = omega arith
-not_found (inr z) = omega arith
 
 -- a record found is one of the tray's
 pub record InTray (t : List ℕ) (f : Found) : Type 0 where
@@ -79,32 +63,24 @@ stay-named t x key n v c st f stands e =
 pub seek-named : (t x : List ℕ) (key k g : ℕ) {f : Found} → walk_segments t x (seek_visit t key) k g 0 ≡ stayed f → InTray t f
 seek-named t x key k g {f} e = segments-stayed t x (seek_visit t key) (InTray t) (g + k) (stay-named t x key (g + k)) k g 0 f (omega arith) e
 
--- what the code's walk hands over is where the seek came to
-module _ (t x : List ℕ) (key : ℕ) {h d n g : ℕ} {counts : List ℕ} (s : Sought) (w : Walking t x h d n counts) (e : g ≡ start h x key)
-    (walked : sought_of s ≡ walk_segments t x (seek_visit t key) (n - g) g 0) where
-  pub came : sought_as s.sight (spot_of s.cursor) ≡ seek t x key
-  unfolding sought_of seek
-  came =
-      walked
-      ∙ ap₂ (λ (m k : ℕ). walk_segments t x (seek_visit t key) (m - k) k 0) w.index.count (e ∙ ap (λ (k : ℕ). start k x key) w.runs)
+pub seek-there : (t x : List ℕ) (key : ℕ) {f : Found} → seek t x key ≡ stayed f → InTray t f
+unfolding seek
+seek-there t x key e = seek-named t x key (segment_count x - start (run_count t) x key) (start (run_count t) x key) e
 
-  pub found-there : {run : RunNo} {place : Place} → s.sight ≡ SightFound run place → (run.0 < run_count t) × (place.0 < count_of t run.0)
-  unfolding sought_of sought_as
-  found-there {run} {place} y =
-      let found : stayed (record { run = run.0; place = place.0; spot = spot_of s.cursor }) ≡ walk_segments t x (seek_visit t key) (n - g) g 0 =
-      sym (ap (λ (a : Sight). sought_as a (spot_of s.cursor)) y) ∙ walked in
-      let there = seek-named t x key (n - g) g (sym found) in
-      (there.run-below, there.place-below)
+-- what get came to
+module _ (t x : List ℕ) (key : ℕ) where
+  pub found-there : (f : Sighting) → sought_of (Ok (Some f)) ≡ seek t x key → (f.run.0 < run_count t) × (f.place.0 < count_of t f.run.0)
+  unfolding sought_of
+  found-there f e = let there = seek-there t x key (sym e) in (there.run-below, there.place-below)
 
-  pub got-value : {run : RunNo} {place : Place} {r : ValueAnswer} → s.sight ≡ SightFound run place → r ≡ value_if t run.0 place.0 key → r ≡ get_framed t x key
-  unfolding get_framed get got_from sought_as value_if
-  got-value {run} {place} y j = j ∙ ap (λ (a : Sight). got_told (got_from t key (sought_as a (spot_of s.cursor)))) (sym y) ∙ ap (λ (a : Walked ℕ Found). got_told (got_from t key a)) came
+  pub got-value : (f : Sighting) {r : Value} → sought_of (Ok (Some f)) ≡ seek t x key → r ≡ value_if t f.run.0 f.place.0 key → r ≡ get_framed t x key
+  unfolding sought_of get_framed get got_from value_if
+  got-value f e j = j ∙ ap (λ (a : Walked ℕ Found). got_told (got_from t key a)) e
 
-  pub got-nothing : {r : ValueAnswer} → ((run : RunNo) (place : Place) → s.sight ≡ SightFound run place → ⊥) → r ≡ nothing_at s.sight → r ≡ get_framed t x key
-  unfolding get_framed get nothing_at got_told got_from sought_as
-  got-nothing {r} none j = j ∙ at-sight s.sight refl ∙ ap (λ (a : Walked ℕ Found). got_told (got_from t key a)) came
-    where
-      at-sight : (a : Sight) → s.sight ≡ a → nothing_at a ≡ got_told (got_from t key (sought_as a (spot_of s.cursor)))
-      at-sight (SightFound run place) z = absurd (none run place z)
-      at-sight SightEnd z = refl
-      at-sight (SightLost g s) z = refl
+  pub got-none : sought_of (Ok None) ≡ seek t x key → Ok None ≡ get_framed t x key
+  unfolding sought_of get_framed get got_from got_told
+  got-none e = ap (λ (a : Walked ℕ Found). got_told (got_from t key a)) e
+
+  pub got-lost : (l : LostAt) → sought_of (Err l) ≡ seek t x key → Err (Lost l.segment l.selector) ≡ get_framed t x key
+  unfolding sought_of get_framed get got_from got_told
+  got-lost l e = ap (λ (a : Walked ℕ Found). got_told (got_from t key a)) e

@@ -1,7 +1,6 @@
 -- The cursor that next hands back belongs to the same tray and index, whatever the index says: next is refused, or its cursor belongs.
-use Rattle.std.specs.Prelude.{◌≡◌, refl, ℕ, ◌<◌, true, cond, ◌&&◌, List, length, eqb, ltb}
-use Rattle.std.proofs.Common.{ap, ◌∙◌, subst, inl, inr, ltb-true}
-use Rattle.refusal.specs.declared.Refusal.TheVariants.{Lost, Cursor as NotBelonging}
+use Rattle.std.specs.Prelude.{◌≡◌, refl, ℕ, ◌<◌, true, cond, ◌&&◌, List, length, eqb, ltb, Err}
+use Rattle.std.proofs.Common.{ap, ◌∙◌, subst, ltb-true}
 use Rattle.theory.specs.Tests.{split, cases, never}
 use Rattle.tray.specs.Frame.{run_count, Framed}
 use Rattle.index.specs.Layout.{segment_count}
@@ -11,7 +10,8 @@ use Rattle.walk.specs.Reads.{Found, end_spot, belongs, unmarked, found_by, next_
 use Rattle.walk.specs.Reads.Handed.{from-stands, stands-belongs, belongs-stands, end-belongs}
 use Rattle.walk.specs.Code.{length-numbers, spot_of}
 use Rattle.answers.specs.Seek.Hands.{in-frames, spot-belonging, Hands, spot_in}
-use Rattle.answers.specs.Next.{refused_next, next_told, next_framed, next_answer}
+use Rattle.answers.specs.Seek.{seek_told}
+use Rattle.answers.specs.Next.{next_framed, next_answer}
 
 -- next stays at the spot that it hands back
 stays_at : (from : Spot) (v : ℕ) (c : Spot) (st : ℕ) (f : Found) → next_visit from v c st ≡ stay f → c ≡ f.spot
@@ -23,10 +23,10 @@ stays_at from v c st f e =
     other z = cc
 
 pub next-hands : (t x : List ℕ) (c : Cursor) → length c.places ≡ 63 → Hands t x (next_answer t x c)
-unfolding next_answer next_framed next_told next walk_from spot_of Hands
+unfolding next_answer next_framed seek_told next walk_from spot_of Hands
 next-hands t x c room =
-    in-frames (Hands t x) (refused_next c) t x (next_framed t x c) (λ r. inl (r, refl))
-    (λ f i. split (Hands t x) (belongs (run_count t) x (spot_of c)) (λ b. told f b (next t x (spot_of c)) refl) (λ n. inl (NotBelonging c.segment.0, refl)))
+    in-frames (Hands t x) Err t x (next_framed t x c) (λ r. tt)
+    (λ f i. split (Hands t x) (belongs (run_count t) x (spot_of c)) (λ b. told f b (next t x (spot_of c)) refl) (λ n. tt))
   where
     -- a walk that stayed began before the end
     inside : {a : Found} → next t x (spot_of c) ≡ stayed a → c.segment.0 < segment_count x
@@ -35,12 +35,11 @@ next-hands t x c room =
         ends : {a : ℕ} {b : Found} → ◌≡◌ {A = Walked ℕ Found} (ended a) (stayed b) → ◌≡◌ {A = ℕ} 0 1
         ends z = cc
 
-    told : Framed t → belongs (run_count t) x (spot_of c) ≡ true → (w : Walked ℕ Found) → next t x (spot_of c) ≡ w → Hands t x (next_told x c w)
+    told : Framed t → belongs (run_count t) x (spot_of c) ≡ true → (w : Walked ℕ Found) → next t x (spot_of c) ≡ w → Hands t x (seek_told x w)
     told f b (stayed a) e =
-        inr
         (spot-belonging t x a.spot
         (from-stands t x f.most-runs (next_visit (spot_of c)) (λ u. belongs (run_count t) x u.spot ≡ true)
         (λ v d st u i n s. subst (λ q. belongs (run_count t) x q ≡ true) (stays_at (spot_of c) v d st u s) (stands-belongs i))
         (spot_of c) 0 (belongs-stands (spot_of c) f.most-runs (length-numbers c.places ∙ room) b (inside e)) a e))
-    told f b (ended st) e = inr (spot-belonging t x (end_spot x) (end-belongs (run_count t) x))
-    told f b (lost g s st) e = inl (Lost g s, refl)
+    told f b (ended st) e = spot-belonging t x (end_spot x) (end-belongs (run_count t) x)
+    told f b (lost g s st) e = tt

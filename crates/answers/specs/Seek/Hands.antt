@@ -4,18 +4,18 @@
 --     Belonging                the cursor belongs
 --     Hands                    the answer is refused, or its cursor belongs
 --     seek-hands               so it is of seek
-use Rattle.std.specs.Prelude.{◌≡◌, refl, ◌⊎◌, ℕ, ◌-◌, true, ◌&&◌, List, [], ◌∷◌, map, leb}
-use Rattle.std.proofs.Common.{sym, ap, subst, inl, inr, arith}
+use Rattle.std.specs.Prelude.{◌≡◌, refl, ⊤, ℕ, ◌-◌, true, ◌&&◌, List, [], ◌∷◌, map, leb, Result, Ok, Err}
+use Rattle.std.proofs.Common.{sym, ap, subst, arith}
 use Rattle.number.specs.Big.{be}
 use Rattle.refusal.specs.declared.Refusal.{Refusal}
-use Rattle.refusal.specs.declared.Refusal.TheVariants.{TrayFrame, IndexFrame, Lost}
+use Rattle.refusal.specs.declared.Refusal.TheVariants.{TrayFrame, IndexFrame}
 use Rattle.theory.specs.Tests.{split, cases, never}
 use Rattle.tray.specs.Frame.{run_count, framed, Framed}
 use Rattle.tray.specs.Frame.Laws.{framed-fits}
 use Rattle.index.specs.Layout.{segment_count, index_framed}
 use Rattle.walk.specs.declared.cursor.Cursor.{Cursor}
-use Rattle.answers.specs.declared.CursorAnswer.{CursorAnswer}
-use Rattle.answers.specs.declared.SeekAnswer.TheVariants.{Refused}
+use Rattle.answers.specs.declared.Stand.{Stand}
+use Rattle.answers.specs.declared.Stand.TheVariants.{Found, End}
 use Rattle.walk.specs.Start.{start}
 use Rattle.walk.specs.Start.Laws.{start-le}
 use Rattle.walk.specs.Walk.{Spot, Visit, stay, go, Walked, stayed, ended, lost}
@@ -23,7 +23,7 @@ use Rattle.walk.specs.Reads.{Found as Sighted, end_spot, belongs, unmarked, reco
 use Rattle.walk.specs.Reads.Handed.{segments-stand, stands-belongs, end-belongs}
 use Rattle.walk.specs.Code.{numbers, spot_of}
 use Rattle.answers.specs.Quick.{cursor_of, in_frames}
-use Rattle.answers.specs.Seek.{refused_seek, seek_told, seek_framed, seek_answer}
+use Rattle.answers.specs.Seek.{seek_told, seek_framed, seek_answer}
 
 -- what holds of each refusal, and of the answer where both frames fit, holds of the answer
 pub in-frames : {A : Type 0} (P : A → Type 0) (refused : Refusal → A) (t x : List ℕ) (fits : A) → ((r : Refusal) → P (refused r))
@@ -51,8 +51,10 @@ unfolding Belonging
 spot-belonging t x c b = subst (λ e. belongs (run_count t) x e ≡ true) (sym (spot_back c)) b
 
 -- the answer is refused, or its cursor belongs
-unfoldable pub Hands : List ℕ → List ℕ → CursorAnswer → Type 0
-Hands t x r = ((f : Refusal) × (r.answer ≡ Refused f)) ⊎ Belonging t x r.cursor
+unfoldable pub Hands : List ℕ → List ℕ → Result Stand Refusal → Type 0
+Hands t x (Ok (Found run place c)) = Belonging t x c
+Hands t x (Ok (End c)) = Belonging t x c
+Hands t x (Err f) = ⊤
 
 -- where a visitor stays
 unfoldable pub spot_in : Visit ℕ Sighted → Spot
@@ -74,14 +76,13 @@ stays_at t key v c st f e =
 pub seek-hands : (t x key : List ℕ) → Hands t x (seek_answer t x key)
 unfolding seek_answer seek_framed seek_told seek Hands
 seek-hands t x key =
-    in-frames (Hands t x) refused_seek t x (seek_framed t x (be 8 key 0)) (λ r. inl (r, refl)) (λ f i. told f (seek t x (be 8 key 0)) refl)
+    in-frames (Hands t x) Err t x (seek_framed t x (be 8 key 0)) (λ r. tt) (λ f i. told f (seek t x (be 8 key 0)) refl)
   where
     told : Framed t → (w : Walked ℕ Sighted) → seek t x (be 8 key 0) ≡ w → Hands t x (seek_told x w)
     told f (stayed a) e =
-        inr
         (spot-belonging t x a.spot
         (segments-stand t x f.most-runs (seek_visit t (be 8 key 0)) (λ b. belongs (run_count t) x b.spot ≡ true)
         (λ v c st b i n s. subst (λ d. belongs (run_count t) x d ≡ true) (stays_at t (be 8 key 0) v c st b s) (stands-belongs i))
         (segment_count x - start (run_count t) x (be 8 key 0)) (start (run_count t) x (be 8 key 0)) 0 (omega (arith, start-le (run_count t) x (be 8 key 0))) a e))
-    told f (ended st) e = inr (spot-belonging t x (end_spot x) (end-belongs (run_count t) x))
-    told f (lost g s st) e = inl (Lost g s, refl)
+    told f (ended st) e = spot-belonging t x (end_spot x) (end-belongs (run_count t) x)
+    told f (lost g s st) e = tt

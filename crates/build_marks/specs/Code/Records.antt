@@ -1,25 +1,20 @@
 -- What the code of the records needs: each law is a way out of a function, or a turn of its loop.
 --     mark-low, old-low, .., spelled           the marks, and one record taken
---     Putting, putting-none, -more, -end       the records of a segment, one by one
---     back-on, back-stop, back-end             the records of the last key given back, one by one
---     Backing, backing-none, -on, -stop, -end
+--     Putting, putting-none, -more, -end, -all the records of a segment, one by one
+--     Backing, backing-on, -stop, -end         the records of the last key given back, one by one
 --     fills-cut, fills-other, fills-over       the keys of a segment
---     reading-on                               places moved
 use Rattle.std.specs.Prelude.{◌≡◌, refl, length, eqb, ltb}
 use Rattle.std.proofs.Math.Path.{sym, ap, ap₂}
-use Rattle.std.proofs.Common.{◌∙◌, subst, length-set, lt-ltb, le-ltb, eq-eqb, ne_eqb}
+use Rattle.std.proofs.Common.{◌∙◌, subst, length-set, lt-ltb, le-ltb}
 use Prim.Native.Nat.{ℕ, suc, ◌+◌, ◌-◌, ◌%◌, ◌≤◌, ◌<◌}
 use native.Mathlib.Omega.{arith}
 use Rattle.std.proofs.Math.Bool.{cond}
 use mathlib.Core.List.{List}
 use Rattle.std.proofs.Math.ListN.{get_or, set}
 use Rattle.theory.specs.Tests.{cases}
-use Rattle.tray.specs.Frame.{run_bytes}
-use Rattle.tray.specs.Run.{record_at}
 use Rattle.index.specs.Scan.{next_in, raise}
-use Rattle.index.specs.Scan.Code.{Reading}
 use Rattle.merge_lead.specs.Heads.Leads.{NextRun, NoRun}
-use Rattle.build_marks.specs.Code.{spelling, old_mark, other_key, Steps, none, more, Stopped, over, other, stop, lower, back, Fills, ends, cuts}
+use Rattle.build_marks.specs.Code.{spelling, old_mark, Steps, none, more, Stopped, over, other, stop, lower, back, Fills, ends, cuts}
 
 -- the marks
 pub mark-low : (k : ℕ) {w : ℕ} → w ≡ cond (eqb k 0) 0 64 → w ≤ 64
@@ -29,31 +24,11 @@ pub old-low : (last k : ℕ) {w : ℕ} → w ≡ old_mark last k → w ≤ 128
 unfolding old_mark
 old-low last k e = cases (eqb last k) (λ y. omega (arith, rw y at e)) (λ n. omega (arith, rw n at e))
 
-pub old-same : (last k : ℕ) → last ≡ k → 128 ≡ old_mark last k
-unfolding old_mark
-old-same last k e = rw (eq-eqb last k e)
-
-pub old-other : (last k : ℕ) → (last ≡ k → ⊥) → 0 ≡ old_mark last k
-unfolding old_mark
-old-other last k n = rw (ne_eqb last k n)
-
--- another key
-pub other_none : (k : ℕ) → k ≡ 0 → 1 ≡ other_key k
-unfolding other_key
-other_none k e = rw (eq-eqb k 0 e)
-
-pub other-some : (k : ℕ) → (k ≡ 0 → ⊥) → 0 ≡ other_key k
-unfolding other_key
-other-some k n = rw (ne_eqb k 0 n)
-
 -- the selector of the record that was taken
-pub spelled : (t places : List ℕ) (mark : ℕ) {run : List ℕ} {r i kind w : ℕ} → i ≡ r → run ≡ run_bytes t r → kind ≡ (record_at run (get_or places i 0)).kind → w ≡ cond (eqb kind 0) 0 64
+pub spelled : (t places : List ℕ) (mark r : ℕ) {kind w : ℕ} → kind ≡ (next_in t places r).kind → w ≡ cond (eqb kind 0) 0 64
     → r + (mark + w) ≡ spelling t places mark r
-unfolding spelling next_in
-spelled t places mark {run} {r} {i} {kind} e b p m =
-    let whole : kind ≡ (record_at (run_bytes t r) (get_or places r 0)).kind =
-    p ∙ ap (λ (s : List ℕ). (record_at s (get_or places i 0)).kind) b ∙ ap (λ (j : ℕ). (record_at (run_bytes t r) (get_or places j 0)).kind) e in
-    ap (λ (n : ℕ). r + (mark + n)) (m ∙ ap (λ (n : ℕ). cond (eqb n 0) 0 64) whole)
+unfolding spelling
+spelled t places mark r {kind} p m = ap (λ (n : ℕ). r + (mark + n)) (m ∙ ap (λ (n : ℕ). cond (eqb n 0) 0 64) p)
 
 -- records have been written as far as a place
 pub record Putting (t : List ℕ) (h : ℕ) (places₀ seg₀ : List ℕ) (from first to : ℕ) (places seg : List ℕ) (at last : ℕ) : Type 0 where
@@ -82,9 +57,15 @@ putting-more {t} {places₀} {seg₀} {places} {seg} {places'} {h} {from} {first
     }
 
 pub putting-end : {t places₀ seg₀ places seg : List ℕ} {h from first to at last : ℕ}
-    → Putting t h places₀ seg₀ from first to places seg at last → (at < to → NoRun t h places)
-    → Stopped t h places₀ seg₀ from first to places seg at last
-putting-end w n = record { steps = w.steps; begun = w.begun; inside = w.inside; all = n }
+    → Putting t h places₀ seg₀ from first to places seg at last → NoRun t h places → Stopped t h places₀ seg₀ from first to places seg at last
+putting-end w n = record { steps = w.steps; begun = w.begun; inside = w.inside; all = λ _. n }
+
+pub putting-all : {t places₀ seg₀ places seg : List ℕ} {h from first to at last : ℕ}
+    → Putting t h places₀ seg₀ from first to places seg at last → to ≤ at → Stopped t h places₀ seg₀ from first to places seg to last
+putting-all {t} {places₀} {seg₀} {places} {seg} {h} {from} {first} {to} {at} {last} w l =
+    let e : at ≡ to = omega (arith, w.inside) in
+    subst (λ (n : ℕ). Stopped t h places₀ seg₀ from first to places seg n last) e
+    (record { steps = w.steps; begun = w.begun; inside = w.inside; all = λ m. absurd (omega arith) })
 
 -- the selectors from i on have been given back
 pub record Backing (seg : List ℕ) (from at : ℕ) (places₀ places : List ℕ) (i : ℕ) : Type 0 where
@@ -92,9 +73,6 @@ pub record Backing (seg : List ℕ) (from at : ℕ) (places₀ places : List ℕ
   pub inside : i ≤ at
   pub room : length places ≡ length places₀
   pub same : back seg from (i - from) places ≡ back seg from (at - from) places₀
-
-pub backing-none : (seg : List ℕ) {from at : ℕ} (places : List ℕ) → from ≤ at → Backing seg from at places places at
-backing-none seg places l = record { begun = l; inside = omega arith; room = refl; same = refl }
 
 module _ {seg places₀ places : List ℕ} {from at i j v r p : ℕ} (w : Backing seg from at places₀ places i) (l : from < i) (j-is : j ≡ i - 1) (v-is : v ≡ get_or seg j 0) (r-is : r ≡ v % 64)
     (p-is : p ≡ get_or places r 0 - 1) where
@@ -126,17 +104,11 @@ module _ {seg places₀ places : List ℕ} {from at i j v r p : ℕ} (w : Backin
   pub backing-stop : v < 128 → stop j (set places r p) ≡ back seg from (at - from) places₀
   backing-stop m = sym (turn ∙ ap (λ o. cond o (stop j (set places r p)) (back seg from (j - from) (set places r p))) (lt-ltb v 128 m)) ∙ w.same
 
-pub backing-end : {seg places₀ places : List ℕ} {from at i : ℕ} → Backing seg from at places₀ places i → i ≤ from → stop i places ≡ back seg from (at - from) places₀
+pub backing-end : {seg places₀ places : List ℕ} {from at i : ℕ} → Backing seg from at places₀ places i → i ≤ from → stop from places ≡ back seg from (at - from) places₀
 unfolding back
 backing-end {seg} {places₀} {places} {from} {at} {i} w l =
     let z : i - from ≡ 0 = omega arith in
-    let e : i ≡ from = omega (arith, w.begun) in
-    ap (λ (n : ℕ). stop n places) e ∙ sym (ap (λ (n : ℕ). back seg from n places) z) ∙ w.same
-
--- the places have moved
-pub reading-on : {t counts starts places places' : List ℕ} → Reading t counts starts places → length places' ≡ length places → Reading t counts starts places'
-reading-on g e =
-    record { at = g.at; few = g.few; room-counts = g.room-counts; room-places = e ∙ g.room-places; counts-are = g.counts-are }
+    sym (ap (λ (n : ℕ). back seg from n places) z) ∙ w.same
 
 -- the keys of a segment have been written
 module _ {t places seg places₁ seg' : List ℕ} {h from first first' to at last : ℕ} (f : first ≡ first')

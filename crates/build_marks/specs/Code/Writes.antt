@@ -1,8 +1,7 @@
 -- What the code of a segment needs of what it writes: each law is a way out of a function, or a turn of its loop.
 --     put-before                                   what stands before something that was written
 --     offsets-end, offsets-next                    the offsets, run by run
---     holders-end, holders-next                    the placeholders, byte by byte
-use Rattle.std.specs.Prelude.{◌≡◌, List, ◌++◌, get_or, take, drop, set, replicate}
+use Rattle.std.specs.Prelude.{◌≡◌, List, ◌++◌, get_or, take, drop, replicate}
 use Rattle.std.proofs.Common.{ap, ap₂, ◌∙◌, subst, zero-add, append_assoc, length-append, drop_at, length-take-le}
 use Prim.Native.Nat.{ℕ, suc, ◌+◌, ◌-◌, ◌*◌, ◌≤◌, ◌<◌}
 use Rattle.std.proofs.Math.Nat.{sub-zero}
@@ -11,7 +10,7 @@ use native.Mathlib.Omega.{arith}
 use Rattle.std.proofs.Math.ListN.{length}
 use Rattle.number.specs.Big.{bytes_of, put}
 use Rattle.number.proofs.Big.Laws.{length-bytes_of}
-use Rattle.number.proofs.Big.Writes.{put-put, put-nil, put-cons}
+use Rattle.number.proofs.Big.Writes.{put-put, put-nil}
 use Rattle.theory.specs.Pack.{joined}
 use Rattle.theory.specs.Listed.{listed}
 use Rattle.merge_lead.specs.Heads.Leads.{LeastKey}
@@ -38,14 +37,6 @@ module _ (places : List ℕ) where
       let z : h - r ≡ suc (h - suc r) = omega arith in
       let two : 8 + 2 * suc r ≡ 8 + 2 * r + length (bytes_of 2 (get_or places r 0)) = omega (arith, length-bytes_of 2 (get_or places r 0)) in
       rw (e, add-one, two, z) (put-put s (8 + 2 * r) (bytes_of 2 (get_or places r 0)) _ k)
-
-pub holders-end : {i to : ℕ} (s : List ℕ) → to ≤ i → put s i (replicate (to - i) 63) ≡ s
-holders-end {i} {to} s l = let z : to - i ≡ 0 = omega arith in rw z (put-nil s i)
-
-pub holders-next : {i to : ℕ} (s : List ℕ) → i < to → to ≤ length s → put (set s i 63) (i + 1) (replicate (to - (i + 1)) 63) ≡ put s i (replicate (to - i) 63)
-holders-next {i} {to} s l k =
-    let z : to - i ≡ suc (to - suc i) = omega arith in
-    rw (add-one, z) (put-cons s i 63 (replicate (to - suc i) 63) (omega arith))
 
 -- a segment as the code writes it, part by part
 pub segmented : {t places seg places' s₁ s₂ s₃ s₄ : List ℕ} {h d m from to e : ℕ} → LeastKey t h places m

@@ -1,22 +1,18 @@
--- `build_segment::put_offsets` meets its contract. Invariant: the offsets from run r on, written from here, complete them. Measure: the runs
--- left.
+-- `build_segment::put_offsets` meets its contract: run by run.
+use Rattle.std.proofs.Common.{refl, sym, ◌∙◌, arith}
 use Rattle.build_marks.specs.Code.Writes.{offsets-start, offsets-end, offsets-next}
-use mathlib.Core.Path.{refl, sym, ◌∙◌}
-use native.Mathlib.Omega.{arith}
 use Rattle.build_segment.proofs.put_offsets.Goals as goal
 
 pub loop-r-init : goal.loop-r-init
-loop-r-init c = (omega arith, refl, offsets-start _ _ _)
+loop-r-init c = record { long = refl; same = offsets-start _ _ _ }
 
 pub loop-r-preserved : goal.loop-r-preserved
 loop-r-preserved c =
-    let put2 = c.put2 in
-    let loop = c.loop-r in
-    let args = c.args in
-    (omega arith, omega (arith, put2.auto.out), offsets-next args.places.now _ put2.ensures (omega arith) (omega arith) ∙ loop.invariant.2)
+    let i = c.loop-r.invariant in
+    record {
+      long = omega (arith, c.write.auto.out, i.long);
+      same = offsets-next c.args.places.now _ c.write.ensures (omega arith) (omega (arith, i.long, c.requires)) ∙ i.same;
+    }
 
 pub returns : goal.returns
-returns c =
-    let loop = c.loop-r in
-    let args = c.args in
-    sym (offsets-end args.places.now _ _ (omega arith)) ∙ loop.invariant.2
+returns c = sym (offsets-end c.args.places.now _ _ (omega arith)) ∙ c.loop-r.invariant.same

@@ -1,19 +1,13 @@
--- `build_segment::put_placeholders` meets its contract. Invariant: the placeholders from byte i on complete them. Measure: the bytes left.
-use Rattle.build_marks.specs.Code.Writes.{holders-end, holders-next}
-use lib.ListN.{length-set}
-use mathlib.Core.Path.{refl, sym, ◌∙◌}
-use native.Mathlib.Omega.{arith}
+-- `build_segment::put_placeholders` meets its contract: the stretch that is filled is as long as the rest.
+use Rattle.std.proofs.Common.{◌≡◌, ◌-◌, ◌∙◌, sym, ap, arith, length, take, drop, replicate, length-drop, length-take-le}
+use Rattle.std.proofs.lemmas.List.{length-replicate}
+use Rattle.number.proofs.Big.Writes.{put_mid-put}
 use Rattle.build_segment.proofs.put_placeholders.Goals as goal
-
-pub loop-i-init : goal.loop-i-init
-loop-i-init c = (omega arith, refl, refl)
-
-pub loop-i-preserved : goal.loop-i-preserved
-loop-i-preserved c =
-    let loop = c.loop-i in
-    (omega arith, simp length-set (omega arith), holders-next _ c.loop-i-test.true (omega arith) ∙ loop.invariant.2)
 
 pub returns : goal.returns
 returns c =
-    let loop = c.loop-i in
-    sym (holders-end _ c.loop-i-test.false) ∙ loop.invariant.2
+    let s = c.args.seg.now in
+    let n = length s - c.args.from in
+    let long : length (take n (drop c.args.from s)) ≡ n = length-take-le n (drop c.args.from s) (simp length-drop (omega arith)) in
+    let filled = c.fill.ensures.after (λ y e. e) ∙ ap (λ k. replicate k 63) long in
+    rw filled (put_mid-put _ _ _ _ (sym (length-replicate n 63)))

@@ -1,7 +1,7 @@
 -- What the loops over the segments need: each law is a way out of a function, or a turn of its loop.
 --     Merging, merging-none, -low, -less, -more, -end     the segments so far: how many, and what is left
---     sounded-ready, -fits, -reading         what the loops start from
---     front_long, front-back, lent-long, lent_back        a stretch that is lent and given back
+--     sounded-ready, -fits                   what the loops start from
+--     front_long, lent-long, lent_back       a stretch that is lent and given back
 --     Writing, writing-none, -room, -more, -end           the segments so far, in the output
 use Rattle.std.specs.Prelude.{◌≡◌, ℕ, suc, ◌+◌, ◌-◌, ◌*◌, ◌≤◌, ◌<◌, take, drop, replicate}
 use Rattle.std.proofs.Math.Path.{refl, sym, ap, ap₂}
@@ -10,7 +10,7 @@ use native.Mathlib.Omega.{arith}
 use mathlib.Core.List.Memᴰ
 use mathlib.Core.List.{List, [], ◌∷◌, ◌++◌}
 use Rattle.std.proofs.Math.ListN.{length}
-use Rattle.number.specs.Big.{put, Bytes}
+use Rattle.number.specs.Big.{put}
 use Rattle.number.proofs.Big.Writes.{put-put, put-nil, length-put}
 use Rattle.theory.specs.View.{view}
 use Rattle.theory.specs.Pack.{joined, groups, pack}
@@ -20,8 +20,7 @@ use Rattle.tray.specs.Frame.{run_count, records_before}
 use Rattle.tray.specs.Meaning.{runs_of, Fits}
 use Rattle.tray.specs.Meaning.Laws.{length-runs_of}
 use Rattle.tray.specs.Meaning.Back.{total-runs_of, fits-runs}
-use Rattle.tray.specs.declared.frame.TrayFrame.{TrayFrame}
-use Rattle.index.specs.Scan.Code.{Reading}
+use Rattle.tray.specs.declared.Tray.{Tray}
 use Rattle.index.specs.Layout.{head_size, segment_at}
 use Rattle.index.specs.Layout.Code.{segment_at-next, segment_at-le}
 use Rattle.index.specs.Rules.{Item, key_of}
@@ -60,40 +59,35 @@ pack-none d [] e = refl
 pack-none d (x ∷ w) e = absurd (omega arith)
 
 -- what the loops over the segments start from
-module _ {t : List ℕ} {d : ℕ} {f : TrayFrame} {n : ℕ} (s : Sounded t d f n) where
-  pub sounded-ready : Ready d (runs_of t)
+module _ {tray : Tray} {d n : ℕ} (s : Sounded tray d n) where
+  pub sounded-ready : Ready d (runs_of tray.bytes.now)
   sounded-ready = sound-ready s.sound (record { least = s.least; most = s.most })
 
-  pub sounded-fits : Bytes t → Fits (runs_of t)
-  sounded-fits b = fits-runs s.sound.frame b
+  pub sounded-fits : Fits (runs_of tray.bytes.now)
+  sounded-fits = fits-runs s.sound.frame s.bytes
 
-  pub sounded-reading : {places : List ℕ} → length places ≡ 63 → Reading t f.counts f.starts places
-  sounded-reading l =
-      let o = s.opened in
-      record { at = o.at; few = o.at.few; room-counts = o.room; room-places = l; counts-are = o.counts }
-
-module _ {t : List ℕ} {d : ℕ} {f : TrayFrame} {all : ℕ} (z : Sounded t d f all) where
-  pub merging-none : {n : ℕ} → n ≡ records_before t (run_count t) → Merging t d (replicate 63 0) n 0
+module _ {tray : Tray} {d all : ℕ} (z : Sounded tray d all) where
+  pub merging-none : {n : ℕ} → n ≡ records_before tray.bytes.now (run_count tray.bytes.now) → Merging tray.bytes.now d (replicate 63 0) n 0
   unfolding cuts
   merging-none e =
       record {
         before = [];
-        rest = view key_of (runs_of t);
-        stand = record { cut = cut-start (runs_of t); is = sym places_of-none };
-        left_is = e ∙ sym (length-view (sounded-ready z) ∙ total-runs_of t);
+        rest = view key_of (runs_of tray.bytes.now);
+        stand = record { cut = cut-start (runs_of tray.bytes.now); is = sym places_of-none };
+        left_is = e ∙ sym (length-view (sounded-ready z) ∙ total-runs_of tray.bytes.now);
         count-is = omega arith;
       }
 
-  pub merging-low : {places : List ℕ} {left g : ℕ} → Merging t d places left g → 0 < left → g < length (cuts d (runs_of t))
+  pub merging-low : {places : List ℕ} {left g : ℕ} → Merging tray.bytes.now d places left g → 0 < left → g < length (cuts d (runs_of tray.bytes.now))
   merging-low m l = omega (arith, m.count-is, m.left_is, pack-some d m.rest (omega (arith, m.left_is)))
 
-  pub merging-end : {places : List ℕ} {left g : ℕ} → Merging t d places left g → left ≤ 0 → g ≡ length (cuts d (runs_of t))
+  pub merging-end : {places : List ℕ} {left g : ℕ} → Merging tray.bytes.now d places left g → left ≤ 0 → g ≡ length (cuts d (runs_of tray.bytes.now))
   merging-end m l = omega (arith, m.count-is, ap length (pack-none d m.rest (omega (arith, m.left_is))))
 
-  module _ (b : Bytes t) {places seg places' seg' : List ℕ} {left g n : ℕ} (m : Merging t d places left g) (some : 0 < left)
-      (room : length seg ≡ 8 + 2 * f.runs + d) (s : Segmented t f.runs d places seg places' seg' n) where
-    next : Cutting t d m.before m.rest places' seg' n
-    next = segment-is t (sounded-ready z) (sounded-fits z b) z.opened.runs m.stand (omega (arith, m.left_is)) room s
+  module _ {places seg places' seg' : List ℕ} {left g n : ℕ} (m : Merging tray.bytes.now d places left g) (some : 0 < left)
+      (room : length seg ≡ 8 + 2 * tray.runs + d) (s : Segmented tray.bytes.now tray.runs d places seg places' seg' n) where
+    next : Cutting tray.bytes.now d m.before m.rest places' seg' n
+    next = segment-is tray.bytes.now (sounded-ready z) (sounded-fits z) tray.frame.runs m.stand (omega (arith, m.left_is)) room s
 
     -- the segment has some of the records that are left
     pub merging-less : (0 < n) × (n ≤ left)
@@ -102,7 +96,7 @@ module _ {t : List ℕ} {d : ℕ} {f : TrayFrame} {all : ℕ} (z : Sounded t d f
       omega (arith, next.number, m.left_is, simp length-append at (ap length next.parts)),
     )
 
-    pub merging-more : Merging t d places' (left - n) (g + 1)
+    pub merging-more : Merging tray.bytes.now d places' (left - n) (g + 1)
     merging-more =
         record {
           before = m.before ++ next.own;
@@ -112,12 +106,27 @@ module _ {t : List ℕ} {d : ℕ} {f : TrayFrame} {all : ℕ} (z : Sounded t d f
           count-is = omega (arith, m.count-is, ap length next.packed);
         }
 
+-- a segment of n records has been written: at place a of the output where that has room for it, and else somewhere
+pub record Wrote (tray : Tray) (d : ℕ) (places out : List ℕ) (a : ℕ) (places' out' : List ℕ) (n : ℕ) : Type 0 where
+  pub old : List ℕ
+  pub new : List ℕ
+  pub long : length old ≡ 8 + 2 * tray.runs + d
+  pub segmented : Segmented tray.bytes.now tray.runs d places old places' new n
+  pub placed : a + (8 + 2 * tray.runs + d) ≤ length out → out' ≡ put out a new
+
 -- a front of a list, lent and given back
 pub front_long : (w : ℕ) (s : List ℕ) {k : ℕ} → w ≤ length s → w ≡ k → length (take w s) ≡ k
 front_long w s l e = length-take-le w s l ∙ e
 
-pub front-back : (w : ℕ) (s ys : List ℕ) {k : ℕ} → w ≤ length s → length ys ≡ length (take w s) → length s ≡ k → length (ys ++ drop w s) ≡ k
-front-back w s ys l e f = simp (length-append, length-drop) (omega (arith, length-take-le w s l))
+-- no segment starts past 2^42
+pub place-low : {tray : Tray} {d g n : ℕ} → Sounded tray d n → g < 4294967296 → segment_at tray.runs d g ≤ 4398046511104
+unfolding segment_at head_size
+place-low {tray} {d} {g} s l =
+    let h = tray.runs in
+    let few : h ≤ 63 = tray.frame.few in
+    let low : d ≤ 128 = s.most in
+    let most : segment_at h d g ≤ segment_at h d 4294967296 = segment_at-le h d g 4294967296 (omega arith) in
+    omega arith
 
 -- a stretch of a list, lent and given back
 pub lent-long : (out : List ℕ) (a e : ℕ) {k : ℕ} → a ≤ e → e ≤ length out → e ≡ a + k → length (take (e - a) (drop a out)) ≡ k
@@ -137,61 +146,61 @@ pub record Writing (t : List ℕ) (d : ℕ) (out₀ places out : List ℕ) (left
   pub same : put out (segment_at (run_count t) d g) (segments_bytes d (runs_of t) merging.before (pack d (groups item_key merging.rest)))
       ≡ put out₀ 8 (segments_bytes d (runs_of t) [] (cuts d (runs_of t)))
 
-module _ {t : List ℕ} {d : ℕ} {f : TrayFrame} {all : ℕ} (z : Sounded t d f all) where
-  pub writing-none : {out : List ℕ} {n : ℕ} → n ≡ records_before t (run_count t) → Writing t d out (replicate 63 0) out n 0
+module _ {tray : Tray} {d all : ℕ} (z : Sounded tray d all) where
+  pub writing-none : {out : List ℕ} {n : ℕ} → n ≡ records_before tray.bytes.now (run_count tray.bytes.now) → Writing tray.bytes.now d out (replicate 63 0) out n 0
   unfolding cuts merging-none segment_at
   writing-none e = record { merging = merging-none z e; room = refl; same = rw (zero-mul, add-zero) }
 
   -- the next segment has room where the whole index has
-  pub writing-room : {out₀ places out : List ℕ} {left g a e : ℕ} → index_size d (runs_of t) ≤ length out₀ → Writing t d out₀ places out left g → 0 < left
-      → a ≡ segment_at f.runs d g → e ≡ segment_at f.runs d (g + 1) → (a ≤ e) × (e ≤ length out) × (e ≡ a + (8 + 2 * f.runs + d))
+  pub writing-room : {out₀ places out : List ℕ} {left g a e : ℕ} → index_size d (runs_of tray.bytes.now) ≤ length out₀ → Writing tray.bytes.now d out₀ places out left g → 0 < left
+      → a ≡ segment_at tray.runs d g → e ≡ segment_at tray.runs d (g + 1) → (a ≤ e) × (e ≤ length out) × (e ≡ a + (8 + 2 * tray.runs + d))
   unfolding index_size
   writing-room {g = g} {a} {e} fit w l p q =
-      let h = f.runs in
-      let below : g < length (cuts d (runs_of t)) = merging-low z w.merging l in
+      let h = tray.runs in
+      let below : g < length (cuts d (runs_of tray.bytes.now)) = merging-low z w.merging l in
       let next : e ≡ segment_at h d (suc g) = q ∙ ap (segment_at h d) (add-one g) in
       let long : segment_at h d (suc g) ≡ segment_at h d g + (8 + 2 * h + d) = segment_at-next h d g in
-      let inside : segment_at h d (suc g) ≤ segment_at h d (length (cuts d (runs_of t))) = segment_at-le h d (suc g) (length (cuts d (runs_of t))) below in
-      let same_runs : segment_at h d (length (cuts d (runs_of t))) ≡ segment_at (length (runs_of t)) d (length (cuts d (runs_of t))) =
-      ap (λ (k : ℕ). segment_at k d (length (cuts d (runs_of t)))) (z.opened.runs ∙ sym (length-runs_of t)) in
+      let inside : segment_at h d (suc g) ≤ segment_at h d (length (cuts d (runs_of tray.bytes.now))) = segment_at-le h d (suc g) (length (cuts d (runs_of tray.bytes.now))) below in
+      let same_runs : segment_at h d (length (cuts d (runs_of tray.bytes.now))) ≡ segment_at (length (runs_of tray.bytes.now)) d (length (cuts d (runs_of tray.bytes.now))) =
+      ap (λ (k : ℕ). segment_at k d (length (cuts d (runs_of tray.bytes.now)))) (tray.frame.runs ∙ sym (length-runs_of tray.bytes.now)) in
       (omega arith, omega (arith, w.room), omega arith)
 
-  pub writing-end : {out₀ places out : List ℕ} {left g : ℕ} → Writing t d out₀ places out left g → left ≤ 0
-      → out ≡ put out₀ 8 (segments_bytes d (runs_of t) [] (cuts d (runs_of t)))
+  pub writing-end : {out₀ places out : List ℕ} {left g : ℕ} → Writing tray.bytes.now d out₀ places out left g → left ≤ 0
+      → out ≡ put out₀ 8 (segments_bytes d (runs_of tray.bytes.now) [] (cuts d (runs_of tray.bytes.now)))
   unfolding segments_bytes
   writing-end {out = out} {g = g} w l =
       let none_left : pack d (groups item_key w.merging.rest) ≡ [] = pack-none d w.merging.rest (omega (arith, w.merging.left_is)) in
-      sym (put-nil out (segment_at (run_count t) d g))
-      ∙ ap (λ (ss : List (List Item)). put out (segment_at (run_count t) d g) (segments_bytes d (runs_of t) w.merging.before ss)) (sym none_left)
+      sym (put-nil out (segment_at (run_count tray.bytes.now) d g))
+      ∙ ap (λ (ss : List (List Item)). put out (segment_at (run_count tray.bytes.now) d g) (segments_bytes d (runs_of tray.bytes.now) w.merging.before ss)) (sym none_left)
       ∙ w.same
 
-  module _ (b : Bytes t) {out₀ places out seg places' seg' : List ℕ} {left g n : ℕ} (w : Writing t d out₀ places out left g) (some : 0 < left)
-      (fit : index_size d (runs_of t) ≤ length out₀) (room : length seg ≡ 8 + 2 * f.runs + d) (s : Segmented t f.runs d places seg places' seg' n) where
-    cutting : Cutting t d w.merging.before w.merging.rest places' seg' n
-    cutting = next z b w.merging some room s
+  module _ {out₀ places out seg places' seg' : List ℕ} {left g n : ℕ} (w : Writing tray.bytes.now d out₀ places out left g) (some : 0 < left)
+      (fit : index_size d (runs_of tray.bytes.now) ≤ length out₀) (room : length seg ≡ 8 + 2 * tray.runs + d) (s : Segmented tray.bytes.now tray.runs d places seg places' seg' n) where
+    cutting : Cutting tray.bytes.now d w.merging.before w.merging.rest places' seg' n
+    cutting = next z w.merging some room s
 
-    pub writing_more : {out' : List ℕ} {a : ℕ} → a ≡ segment_at f.runs d g → out' ≡ put out a seg' → Writing t d out₀ places' out' (left - n) (g + 1)
+    pub writing_more : {out' : List ℕ} {a : ℕ} → a ≡ segment_at tray.runs d g → out' ≡ put out a seg' → Writing tray.bytes.now d out₀ places' out' (left - n) (g + 1)
     unfolding merging-more segments_bytes head_size cutting
     writing_more {out'} {a} p q =
-        let h = f.runs in
-        let runs-are : f.runs ≡ run_count t = z.opened.runs in
+        let h = tray.runs in
+        let runs-are : tray.runs ≡ run_count tray.bytes.now = tray.frame.runs in
         let own = cutting.own in
         let after = pack d (groups item_key cutting.left) in
-        let first = segment_bytes d (runs_of t) w.merging.before own in
-        let others = segments_bytes d (runs_of t) (w.merging.before ++ own) after in
-        let long : length first ≡ head_size (length (runs_of t)) + d = length-segment_bytes d (runs_of t) w.merging.before own (omega (arith, cutting.number, s.short)) in
-        let size : 2 * length (runs_of t) ≡ 2 * h = ap (λ (k : ℕ). 2 * k) (length-runs_of t ∙ sym runs-are) in
+        let first = segment_bytes d (runs_of tray.bytes.now) w.merging.before own in
+        let others = segments_bytes d (runs_of tray.bytes.now) (w.merging.before ++ own) after in
+        let long : length first ≡ head_size (length (runs_of tray.bytes.now)) + d = length-segment_bytes d (runs_of tray.bytes.now) w.merging.before own (omega (arith, cutting.number, s.short)) in
+        let size : 2 * length (runs_of tray.bytes.now) ≡ 2 * h = ap (λ (k : ℕ). 2 * k) (length-runs_of tray.bytes.now ∙ sym runs-are) in
         let ends = writing-room fit w some p refl in
-        let here : a ≡ segment_at (run_count t) d g = p ∙ ap (λ (k : ℕ). segment_at k d g) runs-are in
-        let next-at : segment_at (run_count t) d (g + 1) ≡ a + length first = ap (λ (k : ℕ). segment_at k d (g + 1)) (sym runs-are) ∙ omega (arith, ends.2, long, size) in
+        let here : a ≡ segment_at (run_count tray.bytes.now) d g = p ∙ ap (λ (k : ℕ). segment_at k d g) runs-are in
+        let next-at : segment_at (run_count tray.bytes.now) d (g + 1) ≡ a + length first = ap (λ (k : ℕ). segment_at k d (g + 1)) (sym runs-are) ∙ omega (arith, ends.2, long, size) in
         let out-is : out' ≡ put out a first = q ∙ ap (put out a) cutting.bytes in
         record {
-          merging = merging-more z b w.merging some room s;
+          merging = merging-more z w.merging some room s;
           room = ap length out-is ∙ length-put out a first (omega (arith, ends.1, ends.2, long, size)) ∙ w.room;
           same =
               ap₂ (λ (o : List ℕ) (k : ℕ). put o k others) out-is next-at
               ∙ put-put out a first others (omega (arith, ends.0, ends.1))
               ∙ ap (λ (k : ℕ). put out k (first ++ others)) here
-              ∙ ap (λ (ss : List (List Item)). put out (segment_at (run_count t) d g) (segments_bytes d (runs_of t) w.merging.before ss)) (sym cutting.packed)
+              ∙ ap (λ (ss : List (List Item)). put out (segment_at (run_count tray.bytes.now) d g) (segments_bytes d (runs_of tray.bytes.now) w.merging.before ss)) (sym cutting.packed)
               ∙ w.same;
         }

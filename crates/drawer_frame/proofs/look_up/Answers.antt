@@ -1,42 +1,24 @@
 -- `drawer_frame::look_up` meets its contract: a way out for each answer of get.
-use Rattle.drawer_spec.specs.Line.Code.{got-length, get-found, get_absent, get_refused}
-use native.Mathlib.Omega.{arith}
+use Rattle.std.proofs.Common.{refl, ◌∙◌, ap, Ok}
+use Rattle.drawer_spec.specs.Line.{after_get}
+use Rattle.drawer_spec.specs.Turns.{said-only, looked}
 use Rattle.drawer_frame.proofs.look_up.Goals as goal
 
-pub put_long-requires : goal.put_long-requires
-put_long-requires c =
-    let back = c in
-    let get = back.get-g in
-    let key_of = back.key_of-k in
-    let args = back.args in
-    let pre = back.requires in record { out_len = pre.1; more_bound = omega (arith, got-length args.t.now args.x.now args.key.now key_of.ensures get.ensures) }
+pub returns-in-Ok-Some : goal.returns-in-Ok-Some
+unfolding after_get
+returns-in-Ok-Some c =
+    said-only refl refl refl
+    (looked c.args.drawer.now c.as_slice.ensures c.as_slice-2.ensures c.args.key.now c.get.ensures (c.in-Ok-Some.is ∙ ap Ok c.in-Ok-Some.field-0-is))
+    c.say.ensures
 
-pub returns-in-Found : goal.returns-in-Found
-returns-in-Found c =
-    let back = c in
-    let put-long = back.put_long in
-    let back = back in
-    let get = back.get-g in
-    let key_of = back.key_of-k in
-    let args = back.args in
-    get-found args.t.now args.x.now args.key.now key_of.ensures get.ensures c.in-Found.is put-long.ensures
+pub returns-in-Ok-None : goal.returns-in-Ok-None
+unfolding after_get
+returns-in-Ok-None c =
+    said-only refl refl refl
+    (looked c.args.drawer.now c.as_slice.ensures c.as_slice-2.ensures c.args.key.now c.get.ensures (c.in-Ok-None.is ∙ ap Ok c.in-Ok-None.field-0-is))
+    c.say-in-Ok-None.ensures
 
-pub returns-in-Absent : goal.returns-in-Absent
-returns-in-Absent c =
-    let back = c in
-    let put-short = back.put_short in
-    let back = back in
-    let get = back.get-g in
-    let key_of = back.key_of-k in
-    let args = back.args in
-    get_absent args.t.now args.x.now args.key.now key_of.ensures get.ensures c.in-Absent.is put-short.ensures
-
-pub returns-in-Refused : goal.returns-in-Refused
-returns-in-Refused c =
-    let back = c in
-    let put-refusal = back.put_refusal in
-    let back = back in
-    let get = back.get-g in
-    let key_of = back.key_of-k in
-    let args = back.args in
-    get_refused args.t.now args.x.now args.key.now key_of.ensures get.ensures c.in-Refused.is put-refusal.ensures
+pub returns-in-Err : goal.returns-in-Err
+unfolding after_get
+returns-in-Err c =
+    said-only refl refl refl (looked c.args.drawer.now c.as_slice.ensures c.as_slice-2.ensures c.args.key.now c.get.ensures c.in-Err.is) c.refuse.ensures

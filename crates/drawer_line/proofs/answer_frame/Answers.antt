@@ -1,71 +1,36 @@
 -- `drawer_line::answer_frame` meets its contract: a way out for each kind.
-use lib.Seq.{length-take-le}
-use lib.ListN.{take}
-use mathlib.Core.Path.{sym}
-use Rattle.drawer_spec.specs.Turns.{answered-tray, answered-build, answered-read, answered-bad, heard-2-wrong}
-use native.Mathlib.Omega.{arith}
+use Rattle.std.proofs.Common.{arith}
+use Rattle.drawer_spec.specs.Turns.{turned-1, turned-2, turned-3, turned-4, bad-2, bad-3, bad-kind}
 use Rattle.drawer_line.proofs.answer_frame.Goals as goal
+use Rattle.drawer_line.proofs.answer_frame.Goals.{in_default-via-in-2+else-rest-eq1, in_default-via-in_default-1}
 
-pub returns-then-kind-eq1 : goal.returns-then-kind-eq1
-returns-then-kind-eq1 c =
-    let back = c in
-    let keep-tray = back.keep_tray-held in
-    let back = back in
-    let if1 = back.if-kind-eq1 in
-    let args = back.args in
-    let buffers = back.requires.buffers in
-    answered-tray buffers args.number args.frame.now if1.true keep-tray.ensures
+pub returns-in-1 : goal.returns-in-1
+returns-in-1 c = turned-1 c.args.frame.now c.requires.frame_nonzero c.in-1.is c.keep_tray.ensures
 
-pub slice_bounds-keep_index-end-then-frame-eq2 : goal.slice_bounds-keep_index-end-then-frame-eq2
-slice_bounds-keep_index-end-then-frame-eq2 c =
-    let buffers = c.requires.buffers in
-    sym (length-take-le _ _ (omega (arith, buffers)))
+pub returns-in-2 : goal.returns-in-2
+returns-in-2 c = turned-2 c.args.frame.now c.requires.frame_nonzero c.in-2.is c.if-rest-eq1.true c.keep_index.ensures
 
-pub returns-then-frame-eq2 : goal.returns-then-frame-eq2
-returns-then-frame-eq2 c =
-    let back = c in
-    let keep-index = back.keep_index-held in
-    let back = back in
-    let if3 = back.if-frame-eq2 in
-    let if2 = back.if-kind-eq2 in
-    let back = back in
-    let args = back.args in
-    let buffers = back.requires.buffers in
-    answered-build buffers args.number args.frame.now if2.true if3.true keep-index.ensures
+pub returns-in-Ok : goal.returns-in-Ok
+returns-in-Ok c =
+    let chunk = c.in-Ok.ensures.1 in
+    turned-3 c.args.frame.now c.requires.frame_nonzero c.in-3.is chunk.long chunk.same c.look_up.ensures
 
-pub returns-then-kind-eq2 : goal.returns-then-kind-eq2
-returns-then-kind-eq2 c =
-    let back = c in
-    let put-bad = back.put_bad in
-    let if3 = back.if-frame-eq2 in
-    let if2 = back.if-kind-eq2 in
-    let back = back in
-    let args = back.args in
-    let buffers = back.requires.buffers in
-    answered-bad buffers
-    args.number
-    (heard-2-wrong (take args.kept.tray args.tray.now) (take args.kept.index args.index.now) args.number args.frame.now
-    if2.true if3.false)
-    put-bad.ensures
+pub returns-in-Err : goal.returns-in-Err
+returns-in-Err c = bad-3 c.args.frame.now c.requires.frame_nonzero c.put_bad.ensures c.in-3.is c.in-Err.ensures.1
 
-pub slice_bounds-answer_read-end-2 : goal.slice_bounds-answer_read-end-2
-slice_bounds-answer_read-end-2 c =
-    let buffers = c.requires.buffers in
-    sym (length-take-le _ _ (omega (arith, buffers)))
+pub returns-in-4 : goal.returns-in-4
+returns-in-4 c = turned-4 c.args.frame.now c.requires.frame_nonzero c.in-4.is c.list.ensures
 
-pub slice_bounds-answer_read-end-4 : goal.slice_bounds-answer_read-end-4
-slice_bounds-answer_read-end-4 c =
-    let buffers = c.requires.buffers in
-    sym (length-take-le _ _ (omega (arith, buffers)))
-
-pub returns : goal.returns
-returns c =
-    let back = c in
-    let answer-read = back.answer_read in
-    let back = back in
-    let if2 = back.if-kind-eq2 in
-    let if1 = back.if-kind-eq1 in
-    let back = back in
-    let args = back.args in
-    let buffers = back.requires.buffers in
-    answered-read buffers args.number args.frame.now if1.false if2.false answer-read.ensures
+pub returns-in_default : goal.returns-in_default
+returns-in_default c =
+    elim c.in_default.branch [
+      | in_default-via-in-2+else-rest-eq1 w ↦ bad-2 c.args.frame.now c.requires.frame_nonzero c.put_bad-in_default.ensures w.in-2.is w.if-rest-eq1.false
+      | in_default-via-in_default-1 w ↦ bad-kind
+          c.args.frame.now
+          c.requires.frame_nonzero
+          c.put_bad-in_default.ensures
+          (λ z. omega arith)
+          (λ z. omega arith)
+          (λ z. omega arith)
+          (λ z. omega arith)
+    ]

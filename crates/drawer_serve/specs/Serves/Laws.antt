@@ -3,18 +3,16 @@
 --     feed-preceded                      what was said before changes nothing of what is fed
 --     leaves-room                        room made: what stood in the output stands there still, or is written
 --     serving-none, serving-more, serving-all     the loop of `serve`: its start, a turn, its end
---     ready-more                         room for one more answer line, on every way out
 use Rattle.std.specs.Prelude.{◌≡◌, refl, Bool, true, false, cond, ℕ, ◌+◌, ◌-◌, ◌≤◌, List, [], ◌∷◌, ◌++◌, length, take, drop, eqb}
-use Rattle.std.proofs.Common.{sym, ap, ◌∙◌, ⊎_elim, arith, append-nil, append_assoc, take-add, take_all}
-use Rattle.drawer_spec.specs.declared.Kept.{Kept}
+use Rattle.std.proofs.Common.{sym, ap, ◌∙◌, ⊎_elim, arith, append-nil, append_assoc, length-drop, take-add, take_all}
 use Rattle.drawer_spec.specs.Line.{turn, answer_line}
 use Rattle.drawer_spec.specs.declared.Carried.{Carried}
-use Rattle.drawer_spec.specs.declared.Taken.{Taken}
 use Rattle.drawer_spec.specs.Feed.{Progress, ended, more, fed, feed}
 use Rattle.drawer_spec.specs.Feed.Laws.{feed-append}
-use Rattle.drawer_spec.specs.Feed.Code.{Rooms, Stands, Takes}
-use Rattle.drawer_serve.specs.Ready.{Ready, Room, ready-room}
-use Rattle.drawer_serve.specs.Serves.{preceded, Leaves, Serves, Serving}
+use Rattle.drawer_spec.specs.Filled.{filled}
+use Rattle.drawer_spec.specs.Turns.{Roomy}
+use Rattle.drawer_spec.specs.Feed.Code.{Stands, Takes}
+use Rattle.drawer_serve.specs.Serves.{Room, preceded, Leaves, Serves, Serving}
 
 -- this progress, having said something else
 abbrev saying : Progress → List ℕ → Progress
@@ -57,89 +55,57 @@ unfolding preceded
 preceded-said p = ap (saying p) (sym (append-nil p.said))
 
 -- room made
-module _ {carried after : Carried} {line tray index output : List ℕ} (m : Room carried after) (p : Progress) (s : Stands carried line tray index output p) where
+module _ {c c₁ : Carried} (m : Room c.drawer c₁.drawer) (line : filled c₁.line ≡ filled c.line) (p : Progress) (s : Stands c p) where
   -- the rest of what is carried is as it was
-  stands-saying : (said : List ℕ) → take after.filled output ≡ said → Stands after line tray index output (saying p said)
+  stands-saying : (said : List ℕ) → filled c₁.drawer.output ≡ said → Stands c₁ (saying p said)
   stands-saying said e =
       record {
-        keeps = record {
-          keeps-tray = ap (λ (k : Kept). take k.tray tray) m.same_kept ∙ s.keeps.keeps-tray;
-          keeps-index = ap (λ (k : Kept). take k.index index) m.same_kept ∙ s.keeps.keeps-index;
-          keeps-number = m.same_number ∙ s.keeps.keeps-number;
-          keeps-said = e;
-        };
-        gathers = rw m.same-gathered s.gathers;
+        keeps = record { tray = m.tray ∙ s.keeps.tray; index = m.index ∙ s.keeps.index; number = m.number ∙ s.keeps.number; said = e };
+        gathers = line ∙ s.gathers;
       }
 
-  pub leaves-room : Leaves p after line tray index output
+  pub leaves-room : Leaves p c₁
   leaves-room = ⊎_elim held gone m.held-or-written
     where
-      held : after.filled ≡ carried.filled → Leaves p after line tray index output
-      held e =
-          record {
-            written = [];
-            left = p;
-            is = sym (preceded-none p);
-            stands = stands-saying p.said (ap (λ (n : ℕ). take n output) e ∙ s.keeps.keeps-said);
-          }
+      held : filled c₁.drawer.output ≡ filled c.drawer.output → Leaves p c₁
+      held e = record { written = []; left = p; is = sym (preceded-none p); stands = stands-saying p.said (e ∙ s.keeps.said) }
 
-      gone : after.filled ≡ 0 → Leaves p after line tray index output
-      gone e = record { written = p.said; left = saying p []; is = preceded-said p; stands = stands-saying [] (ap (λ (n : ℕ). take n output) e) }
+      gone : filled c₁.drawer.output ≡ [] → Leaves p c₁
+      gone e = record { written = p.said; left = saying p []; is = preceded-said p; stands = stands-saying [] e }
 
 -- the loop
-pub serving-none : (piece : List ℕ) {carried : Carried} {line tray index frame room output : List ℕ} → Ready carried line tray index frame room output
-    → Serving piece carried line tray index output carried line tray index frame room output 0
+pub serving-none : (piece : List ℕ) {c : Carried} → Roomy c.drawer → Serving piece c c 0
 unfolding feed
-serving-none piece r =
-    record {
-      ready = r;
-      high = omega arith;
-      serves = record { served = λ p s. record { written = []; left = p; is = sym (preceded-none p); stands = s } };
-    }
+serving-none piece l =
+    record { low = l; high = omega arith; serves = λ p s. record { written = []; left = p; is = sym (preceded-none p); stands = s } }
 
-module _ {piece : List ℕ} {carried : Carried} {line₀ tray₀ index₀ output₀ : List ℕ}
-    {state : Carried} {line tray index frame room output : List ℕ} {at : ℕ}
-    (w : Serving piece carried line₀ tray₀ index₀ output₀ state line tray index frame room output at) where
-  -- the piece as far as the next place, in two parts
-  taken-parts : (to : ℕ) → at ≤ to → take to piece ≡ take at piece ++ take (to - at) (drop at piece)
-  taken-parts to l =
-      let sum : at + (to - at) ≡ to = omega arith in
-      ap (λ (n : ℕ). take n piece) (sym sum) ∙ take-add at (to - at) piece
+module _ {piece : List ℕ} {before now : Carried} {at : ℕ} (w : Serving piece before now at) where
+  -- the rest of the piece, as the code lends it
+  rest-is : take (length piece - at) (drop at piece) ≡ drop at piece
+  rest-is = take_all (length piece - at) (drop at piece) (simp length-drop (omega arith))
 
-  serves_more : {taken : Taken} {line₁ tray₁ index₁ output₁ : List ℕ} {after : Carried} → Takes piece at state line tray index output taken line₁ tray₁ index₁ output₁
-      → Room taken.carried after → Serves (take taken.at piece) carried line₀ tray₀ index₀ output₀ after line₁ tray₁ index₁ output₁
-  serves_more {taken} t m =
+  pub serving-more : {taken : ℕ} {mid after : Carried} → Takes (take (length piece - at) (drop at piece)) now taken mid
+      → Room mid.drawer after.drawer → filled after.line ≡ filled mid.line → Serving piece before after (at + taken)
+  serving-more {taken} t m line =
       record {
-        served = λ p s.
-            let before = w.serves.served p s in
-            let part = take (taken.at - at) (drop at piece) in
-            let now = leaves-room m (feed before.left part) (t.fed before.left before.stands) in
+        low = m.low;
+        high = omega (arith, t.high, ap length rest-is, length-drop at piece, w.high);
+        serves = λ p s.
+            let first = w.serves p s in
+            let part = take taken (take (length piece - at) (drop at piece)) in
+            let now = leaves-room m line (feed first.left part) (t.fed first.left first.stands) in
             record {
-              written = before.written ++ now.written;
+              written = first.written ++ now.written;
               left = now.left;
-              is = ap (feed p) (taken-parts taken.at t.low) ∙ feed-append p (take at piece) part
-                  ∙ ap (λ (q : Progress). feed q part) before.is ∙ feed-preceded before.written before.left part
-                  ∙ ap (preceded before.written) now.is ∙ preceded-append before.written now.written now.left;
+              is = ap (feed p) (take-add at taken piece ∙ ap (λ (l : List ℕ). take at piece ++ take taken l) (sym rest-is))
+                  ∙ feed-append p (take at piece) part ∙ ap (λ (q : Progress). feed q part) first.is
+                  ∙ feed-preceded first.written first.left part
+                  ∙ ap (preceded first.written) now.is ∙ preceded-append first.written now.written now.left;
               stands = now.stands;
             };
       }
 
-  pub ready-more : {taken : Taken} {line₁ tray₁ index₁ frame₁ room₁ output₁ : List ℕ} {after : Carried}
-      → Rooms taken.carried tray₁ index₁ frame₁ room₁ output₁ → Takes piece at state line tray index output taken line₁ tray₁ index₁ output₁
-      → length line₁ ≡ length line → Room taken.carried after → Ready after line₁ tray₁ index₁ frame₁ room₁ output₁
-  ready-more r t long m = ready-room r (long ∙ w.ready.line-room) t.gathers m
-
-  pub serving-more : {taken : Taken} {line₁ tray₁ index₁ frame₁ room₁ output₁ : List ℕ} {after : Carried} {to : ℕ} → to ≡ taken.at
-      → Rooms taken.carried tray₁ index₁ frame₁ room₁ output₁ → Takes piece at state line tray index output taken line₁ tray₁ index₁ output₁
-      → length line₁ ≡ length line → Room taken.carried after
-      → Serving piece carried line₀ tray₀ index₀ output₀ after line₁ tray₁ index₁ frame₁ room₁ output₁ to
-  serving-more is r t long m = rw is (record { ready = ready-more r t long m; high = t.high; serves = serves_more t m })
-
-  pub serving-all : length piece ≤ at → Serves piece carried line₀ tray₀ index₀ output₀ state line tray index output
-  serving-all l =
-      let whole : take at piece ≡ piece = take_all at piece l in
-      record {
-        served = λ p s.
-            let before = w.serves.served p s in
-            record { written = before.written; left = before.left; is = ap (feed p) (sym whole) ∙ before.is; stands = before.stands };
-      }
+  pub serving-all : length piece ≤ at → Serves piece before now
+  serving-all l p s =
+      let first = w.serves p s in
+      record { written = first.written; left = first.left; is = ap (feed p) (sym (take_all at piece l)) ∙ first.is; stands = first.stands }

@@ -1,91 +1,69 @@
 -- `fold::fold` meets its contract: the tests that led to each answer are those of the definition, in its order.
-use Rattle.fold.specs.Answers.{answer-frame, answer-low, answer-high, answer-refused, answer-sound, folding-is, leaves-same}
-use mathlib.Core.Path.{sym, ◌∙◌}
+use Rattle.std.proofs.Common.{◌≡◌, ◌≤◌, ◌<◌, Ok, ◌∙◌, List, ℕ, sym, ap, subst}
+use Rattle.std.proofs.lemmas.Result.{err_from_is_err_and}
+use Rattle.number.specs.Big.{Bytes}
+use Rattle.number.proofs.Known.{bytes-known}
+use Rattle.tray.specs.declared.Tray.{Tray}
+use Rattle.tray.specs.Frame.{run_count}
+use Rattle.tray.specs.Check.{check_tray_answer}
+use Rattle.fold_merge.specs.Folding.{Folding}
+use Rattle.fold.specs.Answers.{answer-frame, answer-outside, answer-refused, answer-sound, folding-is, leaves-same}
 use Rattle.fold.proofs.fold.Goals as goal
-use Rattle.fold.proofs.fold.Goals.{then-i-k+else-k-h, else-i-k}
 
-pub returns-in-Refused : goal.returns-in-Refused
-returns-in-Refused c =
-    let back = c in
-    let check-tray = back.check_tray in
-    let if3 = back.if-k-h in
-    let if2 = back.if-i-k in
-    let if1 = back.if-f in
-    let tray-frame = back.tray_frame-f in
-    let args = back.args in record {
-      value = answer-refused
-          args.t.now
-          args.a.0
-          args.b.0
-          _
-          tray-frame.ensures
-          if1.true
-          if2.true
-          if3.true
-          (sym c.in-Refused.is ∙ check-tray.ensures);
-      out_after = leaves-same args.t.now args.out.now args.a.0 args.b.0 _;
-    }
+-- a tray's runs, as its bytes have them
+runs-are : (tray : Tray) {t : List ℕ} → tray.bytes.now ≡ t → tray.runs ≡ run_count t
+runs-are tray e = tray.frame.runs ∙ ap run_count e
 
-pub fold_sound-requires : goal.fold_sound-requires
-fold_sound-requires c =
-    let back = c in
-    let back = back in
-    let check-tray = back.check_tray in
-    let if3 = back.if-k-h in
-    let if2 = back.if-i-k in
-    let if1 = back.if-f in
-    let tray-frame = back.tray_frame-f in
-    let args = back.args in
-    folding-is
-    args.t.now
-    args.a.0
-    args.b.0
-    0
-    tray-frame.ensures
-    if1.true
-    if2.true
-    if3.true
-    (sym c.in-Records.is ∙ check-tray.ensures)
+-- the tray that was checked, with bounds that hold
+folding : (tray : Tray) {t : List ℕ} {a b n : ℕ} → tray.bytes.now ≡ t → Bytes t → a ≤ b → b < tray.runs → Ok n ≡ check_tray_answer t → Folding tray a b
+folding tray e bytes order within c = folding-is tray (subst Bytes (sym e) bytes) order within (c ∙ ap check_tray_answer (sym e))
 
-pub returns-in-Records : goal.returns-in-Records
-returns-in-Records c =
-    let back = c in
-    let fold-sound = back.fold_sound in
-    let back = back in
-    let back = back in
-    let check-tray = back.check_tray in
-    let if3 = back.if-k-h in
-    let if2 = back.if-i-k in
-    let if1 = back.if-f in
-    let tray-frame = back.tray_frame-f in
-    let args = back.args in record {
-      value = answer-sound
-          args.t.now
-          args.a.0
-          args.b.0
-          _
-          tray-frame.ensures
-          if1.true
-          if2.true
-          if3.true
-          (sym c.in-Records.is ∙ check-tray.ensures)
-          fold-sound.ensures.value;
-      out_after = fold-sound.ensures.out_after;
-    }
+pub returns-in_err-tray-clause-value : goal.returns-in_err-tray-clause-value
+returns-in_err-tray-clause-value c =
+    let p = err_from_is_err_and c.from_residual.result c.from_residual.ensures.1 in
+    let e = c.in_err-tray.ensures in
+    rw (p.1, p.2, e.1) (answer-frame _ _ _ _ e.0)
 
-pub returns : goal.returns
-returns c =
-    let tray-frame = c.tray_frame-f in
-    let args = c.args in record { value = answer-frame args.t.now args.a.0 args.b.0 _ tray-frame.ensures c.if-f.false; out_after = leaves-same args.t.now args.out.now args.a.0 args.b.0 _ }
+pub returns-in_err-tray-clause-out_after : goal.returns-in_err-tray-clause-out_after
+returns-in_err-tray-clause-out_after c =
+    let p = err_from_is_err_and c.from_residual.result c.from_residual.ensures.1 in
+    rw (p.1, p.2) (leaves-same _ _ _ _ _)
 
-pub returns-then-f : goal.returns-then-f
-returns-then-f c =
-    let if1 = c.if-f in
-    let tray-frame = c.tray_frame-f in
-    let args = c.args in record {
-      value = elim c.if-i-k.branch [
-        | then-i-k+else-k-h w ↦ answer-high args.t.now args.a.0 args.b.0 _ tray-frame.ensures if1.true w.if-i-k.true w.if-k-h.false
-        | else-i-k w ↦ answer-low args.t.now args.a.0 args.b.0 _ tray-frame.ensures if1.true w.if-i-k.false
-      ];
-      out_after = leaves-same args.t.now args.out.now args.a.0 args.b.0 _;
-    }
+pub returns-then-b-a-clause-value : goal.returns-then-b-a-clause-value
+returns-then-b-a-clause-value c =
+    let e = c.in_ok-tray.ensures in
+    rw c.from.ensures (answer-outside _ _ _ _ e.0 (runs-are c.in_ok-tray.tray e.1) c.then-b-a.either)
+
+pub returns-then-b-a-clause-out_after : goal.returns-then-b-a-clause-out_after
+returns-then-b-a-clause-out_after c = leaves-same _ _ _ _ _
+
+pub returns-in_err-check_tray-clause-value : goal.returns-in_err-check_tray-clause-value
+returns-in_err-check_tray-clause-value c =
+    let p = err_from_is_err_and c.from_residual-in_err-check_tray.result c.from_residual-in_err-check_tray.ensures.1 in
+    let e = c.in_ok-tray.ensures in
+    rw (p.1, p.2) (answer-refused _ _ _ _ e.0 (runs-are c.in_ok-tray.tray e.1) c.if-b-a.false c.if-tray-b.false c.in_err-check_tray.ensures)
+
+pub returns-in_err-check_tray-clause-out_after : goal.returns-in_err-check_tray-clause-out_after
+returns-in_err-check_tray-clause-out_after c =
+    let p = err_from_is_err_and c.from_residual-in_err-check_tray.result c.from_residual-in_err-check_tray.ensures.1 in
+    rw (p.1, p.2) (leaves-same _ _ _ _ _)
+
+pub invariant_of-runs : goal.invariant_of-runs
+invariant_of-runs c =
+    record { holds = folding c.in_ok-tray.tray c.in_ok-tray.ensures.1 (bytes-known _ c.type_inv.t) c.if-b-a.false c.if-tray-b.false c.in_ok-check_tray.ensures }
+
+pub returns-then-eq-clause-value : goal.returns-then-eq-clause-value
+returns-then-eq-clause-value c =
+    let e = c.in_ok-tray.ensures in
+    let told = rw e.1 at c.fold_one.ensures.value in
+    answer-sound _ _ _ _ e.0 (runs-are c.in_ok-tray.tray e.1) c.if-b-a.false c.if-tray-b.false c.in_ok-check_tray.ensures told
+
+pub invariant_of-runs-2 : goal.invariant_of-runs-2
+invariant_of-runs-2 c =
+    record { holds = folding c.in_ok-tray.tray c.in_ok-tray.ensures.1 (bytes-known _ c.type_inv.t) c.if-b-a.false c.if-tray-b.false c.in_ok-check_tray.ensures }
+
+pub returns-clause-value : goal.returns-clause-value
+returns-clause-value c =
+    let e = c.in_ok-tray.ensures in
+    let told = rw e.1 at c.fold_runs.ensures.value in
+    answer-sound _ _ _ _ e.0 (runs-are c.in_ok-tray.tray e.1) c.if-b-a.false c.if-tray-b.false c.in_ok-check_tray.ensures told

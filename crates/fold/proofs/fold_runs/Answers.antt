@@ -1,74 +1,35 @@
 -- `fold::fold_runs` meets its contract: the length of the merge decides on 12, and the size of the folded tray on 7.
-use Rattle.fold.specs.Answers.{answer-long, answer-fits, answer-short, leaves-tray, leaves-same, noted-folded}
+use Rattle.std.proofs.Common.{arith}
 use Rattle.tray.specs.Meaning.{runs_of}
-use native.Mathlib.Omega.{arith}
+use Rattle.fold.specs.Answers.{answer-long, answer-fits, answer-short, leaves-tray, leaves-same, noted-folded}
 use Rattle.fold.proofs.fold_runs.Goals as goal
 
-pub returns-then-n-gt4096 : goal.returns-then-n-gt4096
-returns-then-n-gt4096 c =
-    let merge-runs = c.merge_runs-n in
-    let args = c.args in record {
-      value = answer-long
-          args.a.0
-          args.b.0
-          (runs_of args.t.now)
-          _
-          (noted-folded args.a.0 args.b.0 (runs_of args.t.now) merge-runs.ensures).number
-          c.if-n-gt4096.true;
-      out_after = leaves-same args.t.now args.out.now args.a.0 args.b.0 _;
-    }
+pub returns-then-n-gt4096-clause-value : goal.returns-then-n-gt4096-clause-value
+returns-then-n-gt4096-clause-value c =
+    let w = noted-folded _ _ (runs_of c.args.runs.now.tray.bytes.now) c.merge_runs-n.ensures in answer-long _ _ _ _ w.number (omega arith)
 
-pub folded_size-size-requires : goal.folded_size-size-requires
-folded_size-size-requires c =
-    let merge-runs = c.merge_runs-n in
-    let args = c.args in
-    let folding = c.requires in
-    (folding, omega arith, (noted-folded args.a.0 args.b.0 (runs_of args.t.now) merge-runs.ensures).number)
+pub returns-then-n-gt4096-clause-out_after : goal.returns-then-n-gt4096-clause-out_after
+returns-then-n-gt4096-clause-out_after c = leaves-same _ _ _ _ _
 
-pub write_tray-requires : goal.write_tray-requires
-write_tray-requires c =
-    let back = c in
-    let if2 = back.if-size-out in
-    let folded-size = back.folded_size-size in
-    let back = back in
-    let merge-runs = back.merge_runs-n in
-    let args = back.args in
-    let folding = back.requires in record { folding = (folding, omega arith); noted = noted-folded args.a.0 args.b.0 (runs_of args.t.now) merge-runs.ensures; t_in_bounds = omega (arith, folded-size.ensures, if2.true) }
+pub folded_size-size-requires-clause-number : goal.folded_size-size-requires-clause-number
+folded_size-size-requires-clause-number c = (noted-folded _ _ (runs_of c.args.runs.now.tray.bytes.now) c.merge_runs-n.ensures).number
 
-pub returns-then-size-out : goal.returns-then-size-out
-returns-then-size-out c =
-    let back = c in
-    let write-tray = back.write_tray in
-    let back = back in
-    let if2 = back.if-size-out in
-    let folded-size = back.folded_size-size in
-    let merge-runs = back.merge_runs-n in
-    let args = back.args in record {
-      value = answer-fits
-          args.a.0
-          args.b.0
-          (runs_of args.t.now)
-          _
-          (noted-folded args.a.0 args.b.0 (runs_of args.t.now) merge-runs.ensures).number
-          (omega arith)
-          folded-size.ensures
-          if2.true;
-      out_after = leaves-tray args.t.now args.out.now args.a.0 args.b.0 _ write-tray.ensures;
-    }
+pub returns-then-out-size-clause-value : goal.returns-then-out-size-clause-value
+returns-then-out-size-clause-value c =
+    let w = noted-folded _ _ (runs_of c.args.runs.now.tray.bytes.now) c.merge_runs-n.ensures in
+    answer-short _ _ _ _ w.number (omega arith) c.folded_size-size.ensures c.if-out-size.true
 
-pub returns : goal.returns
-returns c =
-    let folded-size = c.folded_size-size in
-    let merge-runs = c.merge_runs-n in
-    let args = c.args in record {
-      value = answer-short
-          args.a.0
-          args.b.0
-          (runs_of args.t.now)
-          _
-          (noted-folded args.a.0 args.b.0 (runs_of args.t.now) merge-runs.ensures).number
-          (omega arith)
-          folded-size.ensures
-          c.if-size-out.false;
-      out_after = leaves-same args.t.now args.out.now args.a.0 args.b.0 _;
-    }
+pub returns-then-out-size-clause-out_after : goal.returns-then-out-size-clause-out_after
+returns-then-out-size-clause-out_after c = leaves-same _ _ _ _ _
+
+pub write_tray-requires-clause-are : goal.write_tray-requires-clause-are
+write_tray-requires-clause-are c =
+    let w = noted-folded _ _ (runs_of c.args.runs.now.tray.bytes.now) c.merge_runs-n.ensures in w.are (omega arith)
+
+pub returns-clause-value : goal.returns-clause-value
+returns-clause-value c =
+    let w = noted-folded _ _ (runs_of c.args.runs.now.tray.bytes.now) c.merge_runs-n.ensures in
+    answer-fits _ _ _ _ w.number (omega arith) c.folded_size-size.ensures c.if-out-size.false
+
+pub returns-clause-out_after : goal.returns-clause-out_after
+returns-clause-out_after c = leaves-tray _ _ _ _ _ c.write_tray.ensures

@@ -1,6 +1,6 @@
 -- What the code of the merge needs: each law is a way out of a function, or a turn of its loop.
 --     noted-room, noted-full, noted-at              a record noted
---     fresh-first, fresh-new, fresh-old             whether its key is new
+--     fresh-first, fresh-other                      whether its key is new
 --     start-low, stands_at, record-in               where it stands in the tray
 --     Merging, merging-none, -more, -less, -end, -low     the records so far
 use Rattle.std.specs.Prelude.{◌≡◌, refl, cond, take, drop, set, ltb}
@@ -9,7 +9,8 @@ use Rattle.std.proofs.Common.{◌∙◌, add_assoc, add-zero, add-one, take-appe
 use Rattle.std.proofs.Math.Logic.{⊎_elim}
 use Prim.Native.Nat.{ℕ, zero, suc, ◌+◌, ◌-◌, ◌*◌, ◌≤◌, ◌<◌}
 use native.Mathlib.Omega.{arith}
-use Rattle.std.proofs.Math.Bool.{false}
+use Rattle.std.proofs.Math.Bool.{Bool, false}
+use mir.Val.{bool_byte}
 use mathlib.Core.List.Memᴰ
 use mathlib.Core.List.{List, [], ◌∷◌, ◌++◌, map, map-append, append_assoc, append-nil}
 use Rattle.std.proofs.Math.ListN.{length, get_or, length-set, length-append}
@@ -49,18 +50,17 @@ length-noted kept n at =
 pub noted-at : {kept' : List ℕ} (kept : List ℕ) (n : ℕ) {at at' : ℕ} → at ≡ at' → kept' ≡ noted kept n at → kept' ≡ noted kept n at'
 noted-at kept n e q = q ∙ ap (noted kept n) e
 
--- whether a key is new
-pub fresh-first : {n : ℕ} (last k : ℕ) → n ≡ 0 → ◌≡◌ {A = ℕ} 1 (cond (ltb k (new_from n last)) 0 1)
+-- whether a key is new, as a number
+pub fresh-first : {n : ℕ} (last k : ℕ) {b : Bool} → n ≡ 0 → b ≡ eqb n 0 → bool_byte b ≡ cond (ltb k (new_from n last)) 0 1
 unfolding new_from
-fresh-first {n} last k e = rw (eq-eqb n 0 e) (rw (le-ltb k 0 (omega arith)))
+fresh-first {n} last k e q = rw (q, eq-eqb n 0 e, le-ltb k 0 (omega arith))
 
-pub fresh-new : {n last k : ℕ} → (n ≡ 0 → ⊥) → last < k → ◌≡◌ {A = ℕ} 1 (cond (ltb k (new_from n last)) 0 1)
+pub fresh-other : {n : ℕ} (last k : ℕ) {b : Bool} → (n ≡ 0 → ⊥) → b ≡ ltb last k → bool_byte b ≡ cond (ltb k (new_from n last)) 0 1
 unfolding new_from
-fresh-new {n} {last} {k} d l = rw (ne_eqb n 0 d) (rw (le-ltb k (suc last) l))
-
-pub fresh-old : {n last k : ℕ} → (n ≡ 0 → ⊥) → k ≤ last → ◌≡◌ {A = ℕ} 0 (cond (ltb k (new_from n last)) 0 1)
-unfolding new_from
-fresh-old {n} {last} {k} d l = rw (ne_eqb n 0 d) (rw (lt-ltb k (suc last) (omega arith)))
+fresh-other {n} last k d q =
+    cases (ltb last k)
+    (λ y. let l : last < k = ltb-true _ _ y in rw (q, y, ne_eqb n 0 d, le-ltb k (suc last) l))
+    (λ f. let l : k ≤ last = ltb-false _ _ f in rw (q, f, ne_eqb n 0 d, lt-ltb k (suc last) (omega arith)))
 
 -- how many records stand before a run, at most
 before-low : {t : List ℕ} → Framed t → (r : ℕ) → r ≤ run_count t → records_before t r ≤ 4096 * r

@@ -2,14 +2,13 @@
 --     When                       the table: what each answer asks of the tray, the bounds and the room
 --     fold-says                  fold gives an answer exactly when the table does
 --     fold-written, fold-refuses-1, -8, -3, -2, -12, -7     its lines
-use Rattle.std.specs.Prelude.{◌≡◌, refl, ◌↔◌, ◌⊎◌, ℕ, ◌≤◌, ◌<◌, true, false, List, length, leb}
+use Rattle.refusal.specs.declared.Refusal.{Refusal}
+use Rattle.std.specs.Prelude.{◌≡◌, refl, ◌↔◌, ◌⊎◌, ℕ, ◌≤◌, ◌<◌, true, false, List, length, leb, Ok, Err, Result}
 use Rattle.std.proofs.Common.{ap, subst, ◌∙◌}
 use Rattle.std.proofs.Math.Logic.{inl, inr}
 use borrow.Author.Tests.{leb-true, leb-false, ltb-true, ltb-false, le-leb, lt-leb, lt-ltb, le-ltb}
 use Rattle.refusal.specs.declared.Refusal.TheVariants.{TrayFrame, KeyOrder, RecordKind, IndexFrame, Segment, SegmentSize, Room, Bounds, PrefixEnd, Lost, Cursor, RunLength}
 use Rattle.theory.specs.Tests.{split, cases, clash, and-true, and_left, and_right}
-use Rattle.tray.specs.declared.TrayAnswer.{TrayAnswer}
-use Rattle.tray.specs.declared.TrayAnswer.TheVariants.{Records}
 use Rattle.tray.specs.Frame.{run_count, records_before, framed, Framed}
 use Rattle.tray.specs.Frame.Laws.{framed-fits, fits-framed}
 use Rattle.tray.specs.Check.{check_tray_answer, Sound, Says, refused-1, refused-2, refused-3, records}
@@ -17,8 +16,6 @@ use Rattle.tray.proofs.Check.Laws.{says}
 use Rattle.tray.specs.Check.Theorems.{WrongKeyAt, WrongKindAt}
 use Rattle.tray.proofs.Check.Theorems.{answers-records, refuses-2, refuses-3}
 use Rattle.tray.specs.Meaning.{runs_of}
-use Rattle.fold_spec.specs.declared.FoldAnswer.{FoldAnswer}
-use Rattle.fold_spec.specs.declared.FoldAnswer.TheVariants.{Written, Refused}
 use Rattle.fold_spec.specs.Fold.{folded_run, fold_size, bounds_hold, after_check, fold_answer}
 use Rattle.fold_spec.specs.Fold.Laws.{InBounds}
 use Rattle.fold_spec.specs.Fold.Answers.{When}
@@ -50,29 +47,29 @@ module _ (t : List ℕ) (a b room : ℕ) where
   past-bounds f h = rw (fits-framed t f, holds h)
 
   -- and past 3/2
-  past-check : Sound t → InBounds t a b → fold_answer t a b room ≡ after_check a b (runs_of t) room (Records (records_before t (run_count t)))
+  past-check : Sound t → InBounds t a b → fold_answer t a b room ≡ after_check a b (runs_of t) room (Ok (records_before t (run_count t)))
   past-check s h = past-bounds s.frame h ∙ ap (after_check a b (runs_of t) room) ((answers-records t _).1 (s, refl))
 
   -- the answer where the table gives it
-  given : (x : FoldAnswer) → When t a b room x → fold_answer t a b room ≡ x
+  given : (x : Result ℕ Refusal) → When t a b room x → fold_answer t a b room ≡ x
   unfolding When after_check fold_answer
-  given (Written n) w = past-check w.0 w.1 ∙ rw (le-leb _ _ w.2, le-leb _ _ w.3, w.4)
-  given (Refused TrayFrame) w = cases (framed t) (λ f. absurd (w (framed-fits t f))) (λ f. rw f)
-  given (Refused (Bounds n)) w = rw (fits-framed t w.0, fails w.1, w.2)
-  given (Refused (RecordKind n)) w = past-bounds w.1.2.frame w.0 ∙ rw ((refuses-3 t n).1 w.1)
-  given (Refused (KeyOrder n)) w = past-bounds w.1.2.frame w.0 ∙ rw ((refuses-2 t n).1 w.1)
-  given (Refused (RunLength n)) w = past-check w.0 w.1 ∙ rw (lt-leb _ _ (subst (λ k. 4096 < k) w.3 w.2), w.3)
-  given (Refused (Room n)) w =
+  given (Ok n) w = past-check w.0 w.1 ∙ rw (le-leb _ _ w.2, le-leb _ _ w.3, w.4)
+  given (Err TrayFrame) w = cases (framed t) (λ f. absurd (w (framed-fits t f))) (λ f. rw f)
+  given (Err (Bounds n)) w = rw (fits-framed t w.0, fails w.1, w.2)
+  given (Err (RecordKind n)) w = past-bounds w.1.2.frame w.0 ∙ rw ((refuses-3 t n).1 w.1)
+  given (Err (KeyOrder n)) w = past-bounds w.1.2.frame w.0 ∙ rw ((refuses-2 t n).1 w.1)
+  given (Err (RunLength n)) w = past-check w.0 w.1 ∙ rw (lt-leb _ _ (subst (λ k. 4096 < k) w.3 w.2), w.3)
+  given (Err (Room n)) w =
       past-check w.0 w.1 ∙ rw (le-leb _ _ w.2, lt-leb _ _ (subst (λ k. room < k) w.4 w.3), w.4)
-  given (Refused IndexFrame) w = absurd w
-  given (Refused (Segment g)) w = absurd w
-  given (Refused (SegmentSize d)) w = absurd w
-  given (Refused (PrefixEnd n)) w = absurd w
-  given (Refused (Lost g s)) w = absurd w
-  given (Refused (Cursor g)) w = absurd w
+  given (Err IndexFrame) w = absurd w
+  given (Err (Segment g)) w = absurd w
+  given (Err (SegmentSize d)) w = absurd w
+  given (Err (PrefixEnd n)) w = absurd w
+  given (Err (Lost g s)) w = absurd w
+  given (Err (Cursor g)) w = absurd w
 
   -- what the table says of the answer after the check
-  checked : {x : TrayAnswer} → InBounds t a b → Says t x → When t a b room (after_check a b (runs_of t) room x)
+  checked : {x : Result ℕ Refusal} → InBounds t a b → Says t x → When t a b room (after_check a b (runs_of t) room x)
   unfolding When after_check
   checked h (refused-1 x) = x
   checked h (refused-2 n r p f at before kind key) = (h, (r, p, record { frame = f; numbered = at; before = before }, kind, key))
@@ -91,43 +88,43 @@ module _ (t : List ℕ) (a b room : ℕ) where
       (λ f. split (When t a b room) (bounds_hold (run_count t) a b) (λ h. checked (holds-in h) (says t)) (λ h. (framed-fits t f, fails-out h, refl)))
       (λ f g. clash (fits-framed t g) f)
 
-  pub fold-says : (x : FoldAnswer) → (fold_answer t a b room ≡ x) ↔ When t a b room x
+  pub fold-says : (x : Result ℕ Refusal) → (fold_answer t a b room ≡ x) ↔ When t a b room x
   fold-says x = (λ e. subst (When t a b room) e answered, given x)
 
   -- written: the tray is sound, the bounds hold, the folded run is not too long and the room suffices; the answer is the bytes
-  pub fold-written : (n : ℕ) → (fold_answer t a b room ≡ Written n)
+  pub fold-written : (n : ℕ) → (fold_answer t a b room ≡ Ok n)
       ↔ (Sound t × InBounds t a b × (length (folded_run a b (runs_of t)) ≤ 4096) × (fold_size a b (runs_of t) ≤ room) × (n ≡ fold_size a b (runs_of t)))
   unfolding When
-  fold-written n = fold-says (Written n)
+  fold-written n = fold-says (Ok n)
 
   -- 1: the tray breaks the header, count or length rules
-  pub fold-refuses-1 : (fold_answer t a b room ≡ Refused TrayFrame) ↔ (Framed t → ⊥)
+  pub fold-refuses-1 : (fold_answer t a b room ≡ Err TrayFrame) ↔ (Framed t → ⊥)
   unfolding When
-  fold-refuses-1 = fold-says (Refused TrayFrame)
+  fold-refuses-1 = fold-says (Err TrayFrame)
 
   -- 8: a > b or b ≥ H; the figure is b
-  pub fold-refuses-8 : (n : ℕ) → (fold_answer t a b room ≡ Refused (Bounds n)) ↔ (Framed t × (b < a ⊎ run_count t ≤ b) × (n ≡ b))
+  pub fold-refuses-8 : (n : ℕ) → (fold_answer t a b room ≡ Err (Bounds n)) ↔ (Framed t × (b < a ⊎ run_count t ≤ b) × (n ≡ b))
   unfolding When
-  fold-refuses-8 n = fold-says (Refused (Bounds n))
+  fold-refuses-8 n = fold-says (Err (Bounds n))
 
   -- 3: a kind above 1, or a gone record with a value; the figure is the record
-  pub fold-refuses-3 : (n : ℕ) → (fold_answer t a b room ≡ Refused (RecordKind n)) ↔ (InBounds t a b × WrongKindAt t n)
+  pub fold-refuses-3 : (n : ℕ) → (fold_answer t a b room ≡ Err (RecordKind n)) ↔ (InBounds t a b × WrongKindAt t n)
   unfolding When
-  fold-refuses-3 n = fold-says (Refused (RecordKind n))
+  fold-refuses-3 n = fold-says (Err (RecordKind n))
 
   -- 2: a key that is not above the one before it in its run; the figure is the record
-  pub fold-refuses-2 : (n : ℕ) → (fold_answer t a b room ≡ Refused (KeyOrder n)) ↔ (InBounds t a b × WrongKeyAt t n)
+  pub fold-refuses-2 : (n : ℕ) → (fold_answer t a b room ≡ Err (KeyOrder n)) ↔ (InBounds t a b × WrongKeyAt t n)
   unfolding When
-  fold-refuses-2 n = fold-says (Refused (KeyOrder n))
+  fold-refuses-2 n = fold-says (Err (KeyOrder n))
 
   -- 12: the folded run is above 4,096 records; the figure is its count
-  pub fold-refuses-12 : (n : ℕ) → (fold_answer t a b room ≡ Refused (RunLength n))
+  pub fold-refuses-12 : (n : ℕ) → (fold_answer t a b room ≡ Err (RunLength n))
       ↔ (Sound t × InBounds t a b × (4096 < n) × (n ≡ length (folded_run a b (runs_of t))))
   unfolding When
-  fold-refuses-12 n = fold-says (Refused (RunLength n))
+  fold-refuses-12 n = fold-says (Err (RunLength n))
 
   -- 7: the output is too short; the figure is the bytes needed
-  pub fold-refuses-7 : (n : ℕ) → (fold_answer t a b room ≡ Refused (Room n))
+  pub fold-refuses-7 : (n : ℕ) → (fold_answer t a b room ≡ Err (Room n))
       ↔ (Sound t × InBounds t a b × (length (folded_run a b (runs_of t)) ≤ 4096) × (room < n) × (n ≡ fold_size a b (runs_of t)))
   unfolding When
-  fold-refuses-7 n = fold-says (Refused (Room n))
+  fold-refuses-7 n = fold-says (Err (Room n))

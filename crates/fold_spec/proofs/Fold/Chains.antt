@@ -9,7 +9,7 @@
 --     only-length-stops          and given room, run length alone stops a call whose bounds hold
 --     reaches-one, whole-call    where it lets it, given room, folding everything at once reaches one run, by a chain of one call
 --     one-run                    so a chain to one run exists exactly when run length lets everything fold at once
-use Rattle.std.specs.Prelude.{◌≡◌, refl, ◌↔◌, ◌⊎◌, ℕ, zero, ◌-◌, ◌≤◌, ◌<◌, List, [], ◌∷◌, take, replicate, leb}
+use Rattle.std.specs.Prelude.{◌≡◌, refl, ◌↔◌, ◌⊎◌, ℕ, zero, ◌-◌, ◌≤◌, ◌<◌, List, [], ◌∷◌, take, replicate, leb, Ok, Err}
 use Rattle.std.proofs.Common.{sym, subst, ◌∙◌, inl, inr, le_refl, arith, leb-true, leb-false}
 use Rattle.std.proofs.Math.Path.{ap}
 use Rattle.std.proofs.Math.ListN.{length}
@@ -28,7 +28,6 @@ use Rattle.tray.specs.Check.{Sound}
 use Rattle.tray.specs.Meaning.{runs_of}
 use Rattle.tray.specs.Meaning.Laws.{length-runs_of, runs-good}
 use Rattle.tray.specs.Meaning.Back.{fits-runs, runs_of-one}
-use Rattle.fold_spec.specs.declared.FoldAnswer.TheVariants.{Written, Refused}
 use Rattle.fold_spec.specs.Fold.{key_of, folded_run, folded_runs, fold_size, fold_answer, fold_leaves, Calls, no_call, call}
 use Rattle.fold_spec.specs.Fold.Laws.{InBounds, Foldable, key_rule}
 use Rattle.fold_spec.proofs.Fold.Laws.{folded_run-whole, fold-sound, fold-bytes, fold-means}
@@ -36,8 +35,8 @@ use Rattle.fold_spec.proofs.Fold.Answers.{fold-written, fold-refuses-12}
 use Rattle.fold_spec.proofs.Fold.Leaves.{leaves-written}
 use Rattle.fold_spec.specs.Fold.Chains.{merge_of, whole_run, Gives, whole_bytes, whole_size}
 
-pub call-gives : {t : List ℕ} {a b n : ℕ} (out : List ℕ) → Sound t → Bytes t → fold_answer t a b (length out) ≡ Written n
-    → Gives t a b (take n (fold_leaves t a b out (Written n)))
+pub call-gives : {t : List ℕ} {a b n : ℕ} (out : List ℕ) → Sound t → Bytes t → fold_answer t a b (length out) ≡ Ok n
+    → Gives t a b (take n (fold_leaves t a b out (Ok n)))
 call-gives {t} {a} {b} {n} out s bytes e =
     let w = (fold-written t a b (length out) n).0 e in
     let f : Foldable t a b = record { sound = s; bytes = bytes; bounds = w.1; short = w.2 } in
@@ -95,15 +94,15 @@ module _ {t u : List ℕ} (s : Sound t) (bytes : Bytes t) (c : Calls t u) where
       let inside : b < length (runs_of u) = rw length-runs_of h.within in
       omega (arith, chain-fold-length key_of (runs-good s) (calls-chain s bytes c) h.order inside, ap length (whole_run_lem s))
 
-  pub never-refuses-12 : length (whole_run t) ≤ 4096 → (a b room n : ℕ) → fold_answer u a b room ≡ Refused (RunLength n) → ⊥
+  pub never-refuses-12 : length (whole_run t) ≤ 4096 → (a b room n : ℕ) → fold_answer u a b room ≡ Err (RunLength n) → ⊥
   never-refuses-12 short a b room n e =
       let w = (fold-refuses-12 u a b room n).0 e in
       omega (arith, length-never-stops short w.1, w.2, w.3)
 
   -- given room, nothing but run length refuses a call whose bounds hold
   pub only-length-stops : (a b room : ℕ) → InBounds u a b → fold_size a b (runs_of u) ≤ room
-      → (fold_answer u a b room ≡ Written (fold_size a b (runs_of u)))
-      ⊎ (fold_answer u a b room ≡ Refused (RunLength (length (folded_run a b (runs_of u)))))
+      → (fold_answer u a b room ≡ Ok (fold_size a b (runs_of u)))
+      ⊎ (fold_answer u a b room ≡ Err (RunLength (length (folded_run a b (runs_of u)))))
   only-length-stops a b room h fits =
       let sound = (calls-sound s bytes c).0 in
       cases (leb (length (folded_run a b (runs_of u))) 4096)
@@ -135,7 +134,7 @@ module _ {t : List ℕ} (s : Sound t) (bytes : Bytes t) where
       ∙ (rw length-runs_of at (fold-whole key_of (same_key key_of) (runs_of t) (some-run s)))
 
   pub reaches-one : (room : ℕ) → length (whole_run t) ≤ 4096 → whole_size t ≤ room
-      → (fold_answer t 0 (run_count t - 1) room ≡ Written (whole_size t)) × (runs_of (whole_bytes t) ≡ merge_of t ∷ [])
+      → (fold_answer t 0 (run_count t - 1) room ≡ Ok (whole_size t)) × (runs_of (whole_bytes t) ≡ merge_of t ∷ [])
   reaches-one room short fits =
       ((fold-written t 0 (run_count t - 1) room (whole_size t)).1 (s, whole-bounds, short, fits, refl), whole-means short)
 

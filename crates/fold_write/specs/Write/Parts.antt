@@ -25,7 +25,8 @@ use Rattle.tray.specs.Meaning.Read.{length-records_bytes}
 use Rattle.tray.specs.Meaning.Write.{records-back, bytes_run}
 use Rattle.fold_spec.specs.Fold.{key_of, folded_run, folded_runs, fold_bytes, fold_size}
 use Rattle.fold_spec.proofs.Fold.Laws.{length-fold_bytes}
-use Rattle.fold_write.specs.Write.{between, head_bytes, body_bytes}
+use Rattle.fold_merge.specs.Folding.{between}
+use Rattle.fold_write.specs.Write.{head_bytes, body_bytes}
 use Rattle.fold_merge.specs.Folding.Start.{listed-part, listed-drop}
 
 -- what stands between two places

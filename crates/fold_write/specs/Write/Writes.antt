@@ -2,11 +2,9 @@
 --     record-put                                   a record copied
 --     Putting, putting-none, -more, -end           records copied, one by one
 --     put_next                                     one write right after another
---     between-fits, kept-number                    the room of a part, and the number of the records
-use Rattle.std.specs.Prelude.{◌≡◌, refl, ℕ, suc, ◌+◌, ◌-◌, ◌*◌, ◌≤◌, ◌<◌, List, [], ◌∷◌, ◌++◌, map, length, get_or, take, drop, set}
-use Rattle.std.proofs.Common.{sym, ap, ap₂, ◌∙◌, subst, add-zero, arith, append_assoc, length-append, drop_of_length-le, take-append-drop, length-take-le}
+use Rattle.std.specs.Prelude.{◌≡◌, refl, ℕ, suc, ◌+◌, ◌*◌, ◌≤◌, ◌<◌, List, [], ◌∷◌, ◌++◌, map, length, get_or, take, drop, set}
+use Rattle.std.proofs.Common.{sym, ap, ap₂, ◌∙◌, subst, add-zero, add-one, arith, append_assoc, length-append, drop_of_length-le, drop-cons, take-append-drop}
 use mathlib.Core.List.Memᴰ
-use Rattle.std.proofs.lemmas.List.{length-map}
 use Rattle.number.specs.Big.{be, bytes_of, put, Bytes}
 use Rattle.number.proofs.Big.Laws.{be-add, be-bound, bytes_of-add, length-bytes_of}
 use Rattle.number.proofs.Big.Writes.{put-put, length-put, put-nil, put-cons}
@@ -15,9 +13,6 @@ use Rattle.theory.specs.Rising.{Mem, All}
 use Rattle.tray.specs.Run.{record_from}
 use Rattle.tray.specs.Meaning.{record_bytes, records_bytes}
 use Rattle.tray.specs.Meaning.Read.{length-record_bytes}
-use Rattle.fold_merge.specs.Folding.Draws.{group-next}
-use Rattle.fold_write.specs.Write.{between}
-use Rattle.fold_write.specs.Write.Parts.{length-between}
 
 -- a value in two parts
 value-parts : (t : List ℕ) (p q : ℕ) → Bytes t → q ≡ p + 8 → bytes_of 16 (be 16 t p) ≡ bytes_of 8 (be 8 t p) ++ bytes_of 8 (be 8 t q)
@@ -51,45 +46,39 @@ put_next out xs ys p e l m f =
     f ∙ ap₂ (λ (s : List ℕ) (j : ℕ). put s j ys) e m ∙ put-put out p xs ys l
 
 -- the records from number j on have still to be copied
-pub record Putting (t kept : List ℕ) (n at : ℕ) (out₀ out : List ℕ) (j : ℕ) : Type 0 where
-  pub within : j ≤ n
+pub record Putting (t kept : List ℕ) (at : ℕ) (out₀ out : List ℕ) (j : ℕ) : Type 0 where
   pub room : length out ≡ length out₀
-  pub same : put out (at + 25 * j) (records_bytes (map (record_from t) (drop j (take n kept)))) ≡ put out₀ at (records_bytes (map (record_from t) (take n kept)))
+  pub same : put out (at + 25 * j) (records_bytes (map (record_from t) (drop j kept))) ≡ put out₀ at (records_bytes (map (record_from t) kept))
 
-pub putting-none : (t kept : List ℕ) (n at : ℕ) (out : List ℕ) → Putting t kept n at out out 0
-putting-none t kept n at out = record { within = omega arith; room = refl; same = rw add-zero }
+pub putting-none : (t kept : List ℕ) (at : ℕ) (out : List ℕ) → Putting t kept at out out 0
+putting-none t kept at out = record { room = refl; same = rw add-zero }
+
+-- the next one of the records
+next-kept : (kept : List ℕ) {j : ℕ} → j < length kept → drop j kept ≡ get_or kept j 0 ∷ drop (j + 1) kept
+next-kept kept {j} k = rw (add-one, drop-cons kept j 0 k)
 
 -- record j stands in the tray
-pub kept-inside : (t kept : List ℕ) {n j : ℕ} → n ≤ length kept → All (λ from. from + 25 ≤ length t) (take n kept) → j < n → get_or kept j 0 + 25 ≤ length t
-kept-inside t kept {n} {j} l all k =
+pub kept-inside : (t kept : List ℕ) {j : ℕ} → All (λ from. from + 25 ≤ length t) kept → j < length kept → get_or kept j 0 + 25 ≤ length t
+kept-inside t kept {j} all k =
     all (get_or kept j 0)
-    (subst (Mem (get_or kept j 0)) (take-append-drop j (take n kept)) (Memᴰ.append_right (take j (take n kept)) (rw (group-next kept l k) here)))
+    (subst (Mem (get_or kept j 0)) (take-append-drop j kept) (Memᴰ.append_right (take j kept) (rw (next-kept kept k) here)))
 
-pub putting-more : {t kept : List ℕ} {n at : ℕ} {out₀ out out' : List ℕ} {j : ℕ} → n ≤ length kept → at + 25 * n ≤ length out₀
-    → Putting t kept n at out₀ out j → j < n → out' ≡ put out (at + 25 * j) (record_bytes (record_from t (get_or kept j 0)))
-    → Putting t kept n at out₀ out' (j + 1)
+pub putting-more : {t kept : List ℕ} {at : ℕ} {out₀ out out' : List ℕ} {j : ℕ} → at + 25 * length kept ≤ length out₀
+    → Putting t kept at out₀ out j → j < length kept → out' ≡ put out (at + 25 * j) (record_bytes (record_from t (get_or kept j 0)))
+    → Putting t kept at out₀ out' (j + 1)
 unfolding records_bytes
-putting-more {t} {kept} {n} {at} {out₀} {out} {out'} {j} l h w k e =
+putting-more {t} {kept} {at} {out₀} {out} {out'} {j} h w k e =
     let one = record_bytes (record_from t (get_or kept j 0)) in
     let long : length one ≡ 25 = length-record_bytes (record_from t (get_or kept j 0)) in
     let room : length out ≡ length out₀ = w.room in
     record {
-      within = omega arith;
       room = ap length e ∙ length-put out (at + 25 * j) one (omega arith) ∙ w.room;
-      same = put_next out one (records_bytes (map (record_from t) (drop (j + 1) (take n kept)))) (at + 25 * j) {q = at + 25 * (j + 1)} e (omega arith) (omega arith) refl ∙ (rw (group-next kept l k) at w.same);
+      same = put_next out one (records_bytes (map (record_from t) (drop (j + 1) kept))) (at + 25 * j) {q = at + 25 * (j + 1)} e (omega arith) (omega arith) refl ∙ (rw (next-kept kept k) at w.same);
     }
 
-pub putting-end : {t kept : List ℕ} {n at : ℕ} {out₀ out : List ℕ} {j : ℕ} → n ≤ length kept → Putting t kept n at out₀ out j → n ≤ j
-    → out ≡ put out₀ at (records_bytes (map (record_from t) (take n kept)))
+pub putting-end : {t kept : List ℕ} {at : ℕ} {out₀ out : List ℕ} {j : ℕ} → Putting t kept at out₀ out j → length kept ≤ j
+    → out ≡ put out₀ at (records_bytes (map (record_from t) kept))
 unfolding records_bytes
-putting-end {t} {kept} {n} {at} {out₀} {out} {j} l w k =
-    let none_left : drop j (take n kept) ≡ [] = drop_of_length-le (take n kept) {i = j} (rw (length-take-le n kept l) k) in
+putting-end {t} {kept} {at} {out₀} {out} {j} w k =
+    let none_left : drop j kept ≡ [] = drop_of_length-le kept {i = j} k in
     sym (put-nil out (at + 25 * j)) ∙ (rw none_left at w.same)
-
--- a part of the tray has room in the output
-pub between-fits : (x y : ℕ) (t : List ℕ) (at : ℕ) {room : ℕ} → x ≤ y → y ≤ length t → at + (y - x) ≤ room → at + length (between x y t) ≤ room
-between-fits x y t at l h k = rw (length-between x y t l h) k
-
--- as many records as were kept
-pub kept-number : (t kept : List ℕ) {n : ℕ} → n ≤ length kept → n ≡ length (map (record_from t) (take n kept))
-kept-number t kept {n} l = sym (length-map (take n kept) (record_from t) ∙ length-take-le n kept l)

@@ -1,4 +1,4 @@
-use Prim.Native.Nat.{◌-◌, ◌/◌}
+use Prim.Native.Nat.{◌/◌}
 use lib.ListN.{length}
 use Rattle.hexadecimal.specs.Hex.Laws.{pair_at}
 use Rattle.hexadecimal.specs.Hex.Code.{Filling}
@@ -6,6 +6,3 @@ use Rattle.hexadecimal.proofs.decode.Given as goal
 
 abbrev pub invariant-loop-i : goal.invariant-loop-i
 invariant-loop-i l = Filling (pair_at l.line) (length l.line / 2) l.initial.frame l.frame l.i
-
-abbrev pub decreases-loop-i : goal.decreases-loop-i
-decreases-loop-i l = length l.line / 2 - l.i

@@ -1,11 +1,9 @@
 -- What the code of digits needs: each law is a way out of a function, or a turn of its loop.
 --     fault, faults, all_digits-faults                     the characters that are no digits, counted
---     Filling, filling-none, filling-more, filling-end    bytes written one by one, each by its place
---     Spelling, spelling-none, spelling-more, spelling-end    bytes written as digits, one by one
+--     Filling, filling-more, filling-end    bytes written one by one, each by its place
+--     Spelling, spelling-more, spelling-end    bytes written as digits, one by one
 use Rattle.std.specs.Prelude.{◌≡◌, refl, ℕ, suc, ◌+◌, ◌-◌, ◌*◌, ◌/◌, ◌%◌, ◌≤◌, ◌<◌, Bool, true, false, cond, ◌&&◌, List, [], ◌∷◌, length, get_or, set, drop, eqb}
-use Rattle.std.proofs.Common.{sym, ap, ◌∙◌, add-zero, zero-add, add-one, one-add, arith, length-set, drop_of_length-le, drop-cons, le-leb, ne_eqb}
-use Rattle.std.proofs.Math.Nat.{sub-zero}
-use Rattle.std.proofs.lemmas.Bool.{lt-leb}
+use Rattle.std.proofs.Common.{sym, ap, ◌∙◌, zero-add, add-one, one-add, arith, length-set, drop_of_length-le, drop-cons, ne_eqb}
 use Rattle.number.specs.Big.{put}
 use Rattle.number.proofs.Big.Writes.{put-nil, put-cons}
 use Rattle.theory.specs.Listed.{listed}
@@ -22,27 +20,7 @@ unfoldable pub faults : List ℕ → ℕ
 faults [] = 0
 faults (c ∷ cs) = fault c + faults cs
 
--- which character is one, as the code asks
-pub fault-before : (c : ℕ) → c < 48 → 1 ≡ fault c
-unfolding fault is_digit
-fault-before c h = rw (lt-leb 48 c h, lt-leb 97 c (omega arith))
-
-pub fault-figure : (c : ℕ) → 48 ≤ c → c ≤ 57 → 0 ≡ fault c
-unfolding fault is_digit
-fault-figure c l h = rw (le-leb 48 c l, le-leb c 57 h)
-
-pub fault-between : (c : ℕ) → 57 < c → c < 97 → 1 ≡ fault c
-unfolding fault is_digit
-fault-between c l h = rw (le-leb 48 c (omega arith), lt-leb c 57 l, lt-leb 97 c h)
-
-pub fault-letter : (c : ℕ) → 97 ≤ c → c ≤ 102 → 0 ≡ fault c
-unfolding fault is_digit
-fault-letter c l h = rw (le-leb 48 c (omega arith), lt-leb c 57 (omega arith), le-leb 97 c l, le-leb c 102 h)
-
-pub fault-behind : (c : ℕ) → 102 < c → 1 ≡ fault c
-unfolding fault is_digit
-fault-behind c h = rw (le-leb 48 c (omega arith), lt-leb c 57 (omega arith), le-leb 97 c (omega arith), lt-leb c 102 h)
-
+-- at most 1 each
 pub fault-low : (c : ℕ) → fault c ≤ 1
 unfolding fault
 fault-low c = go (is_digit c)
@@ -67,9 +45,6 @@ pub record Counting (line : List ℕ) (n i : ℕ) : Type 0 where
   pub few : n ≤ i
   pub same : n + faults (drop i line) ≡ faults line
 
-pub counting-none : (line : List ℕ) → Counting line 0 0
-counting-none line = record { within = omega arith; few = omega arith; same = zero-add (faults line) }
-
 pub counting_more : {line : List ℕ} {n i f : ℕ} → Counting line n i → i < length line → f ≡ fault (get_or line i 0) → Counting line (n + f) (i + 1)
 unfolding faults
 counting_more {line} {n} {i} {f} w l e =
@@ -87,9 +62,6 @@ pub record Filling (f : ℕ → ℕ) (n : ℕ) (out₀ out : List ℕ) (i : ℕ)
   pub within : i ≤ n
   pub room : length out ≡ length out₀
   pub same : put out i (listed (n - i) i f) ≡ put out₀ 0 (listed n 0 f)
-
-pub filling-none : (f : ℕ → ℕ) (n : ℕ) (out : List ℕ) → Filling f n out out 0
-filling-none f n out = record { within = omega arith; room = refl; same = rw sub-zero }
 
 pub filling-more : {f : ℕ → ℕ} {n : ℕ} {out₀ out : List ℕ} {i v : ℕ} → Filling f n out₀ out i → i < n → i < length out → v ≡ f i
     → Filling f n out₀ (set out i v) (i + 1)
@@ -123,9 +95,6 @@ pub record Spelling (bytes : List ℕ) (at : ℕ) (out₀ out : List ℕ) (i : �
   pub within : i ≤ length bytes
   pub room : length out ≡ length out₀
   pub same : put out (at + 2 * i) (hex_of (drop i bytes)) ≡ put out₀ at (hex_of bytes)
-
-pub spelling-none : (bytes : List ℕ) (at : ℕ) (out : List ℕ) → Spelling bytes at out out 0
-spelling-none bytes at out = record { within = omega arith; room = refl; same = rw add-zero }
 
 pub spelling-more : {bytes : List ℕ} {at : ℕ} {out₀ out : List ℕ} {i high low : ℕ} → Spelling bytes at out₀ out i → i < length bytes
     → at + 2 * length bytes ≤ length out₀ → high ≡ digit (get_or bytes i 0 / 16) → low ≡ digit (get_or bytes i 0 % 16)

@@ -1,26 +1,25 @@
 -- Worked cases of check index, most of them the sample's with a byte changed. Each holds by computation.
-use Rattle.std.specs.Prelude.{◌≡◌, refl, ℕ, List, [], ◌∷◌, ◌++◌, take, set, replicate}
+use Rattle.refusal.specs.declared.Refusal.{Refusal}
+use Rattle.std.specs.Prelude.{◌≡◌, refl, ℕ, List, [], ◌∷◌, ◌++◌, take, set, replicate, Ok, Err, Result}
 use Rattle.number.specs.Big.{be}
 use Rattle.refusal.specs.declared.Refusal.TheVariants.{TrayFrame, KeyOrder, IndexFrame, Segment}
 use Rattle.tray.specs.Frame.{run_count, count_of, records_before, start_of, run_bytes, header_fits, counts_fit, framed}
 use Rattle.tray.specs.Run.{record_from, kind_wrong, key_wrong, judge_from}
 use Rattle.tray.specs.Check.{after_run, check_runs, check_tray_answer}
 use Rattle.tray.specs.Sample.{sample}
-use Rattle.index.specs.declared.IndexAnswer.{IndexAnswer}
-use Rattle.index.specs.declared.IndexAnswer.TheVariants.{Segments, Refused}
 use Rattle.index.specs.Layout.{size_of, segment_count, head_size, segment_at, index_framed}
 use Rattle.index.specs.Scan.{marked, raise, begins, joins, offsets_hold, only_placeholders, next_in, has_next, heads_above, used_up, names, closed, following, selectors_scan, segment_scan, scan_from}
 use Rattle.index.specs.Check.{after_scan, judge_index, framed_index, after_tray, check_index_answer}
 use Rattle.index.specs.Sample.{sample_index}
 
 -- check index with all that it computes by: to unfold it is to unfold them
-checked : List ℕ → List ℕ → IndexAnswer
+checked : List ℕ → List ℕ → Result ℕ Refusal
 unfolding check_index_answer after_tray framed_index judge_index after_scan index_framed size_of segment_count head_size segment_at scan_from segment_scan selectors_scan following closed names heads_above used_up has_next next_in offsets_hold only_placeholders begins joins marked raise check_tray_answer check_runs after_run judge_from kind_wrong key_wrong record_from framed header_fits counts_fit run_count count_of records_before start_of run_bytes be
 checked t x = check_index_answer t x
 
 -- refusal 5
-abbrev wrong : ℕ → IndexAnswer
-wrong n = Refused (Segment n)
+abbrev wrong : ℕ → Result ℕ Refusal
+wrong n = Err (Segment n)
 
 -- four selectors
 abbrev four : ℕ → ℕ → ℕ → ℕ → List ℕ
@@ -48,42 +47,42 @@ abbrev twice : ℕ → ℕ → List ℕ
 twice k l = 2 ∷ 0 ∷ 0 ∷ 0 ∷ 0 ∷ 1 ∷ 0 ∷ 1 ∷ (point k ++ point l)
 
 -- the sample's index is accepted, and so is one that ends a segment earlier
-pub sound : check_index_answer sample sample_index ≡ Segments 1
+pub sound : check_index_answer sample sample_index ≡ Ok 1
 unfolding checked
 sound = refl
 
-pub ends-early : check_index_answer sample (in_two (four 0x00 0x81 0x3f 0x3f) 2 1 1 (four 0x01 0x3f 0x3f 0x3f)) ≡ Segments 2
+pub ends-early : check_index_answer sample (in_two (four 0x00 0x81 0x3f 0x3f) 2 1 1 (four 0x01 0x3f 0x3f 0x3f)) ≡ Ok 2
 unfolding checked
 ends-early = refl
 
 -- 1 to 3: the tray decides first
-pub tray-frame : check_index_answer (take 4 sample) sample_index ≡ Refused TrayFrame
+pub tray-frame : check_index_answer (take 4 sample) sample_index ≡ Err TrayFrame
 unfolding checked
 tray-frame = refl
 
-pub tray-key : check_index_answer (set sample 65 1) [] ≡ Refused (KeyOrder 2)
+pub tray-key : check_index_answer (set sample 65 1) [] ≡ Err (KeyOrder 2)
 unfolding checked
 tray-key = refl
 
 -- 4: the header,
-pub no_bytes : check_index_answer sample [] ≡ Refused IndexFrame
+pub no_bytes : check_index_answer sample [] ≡ Err IndexFrame
 unfolding checked
 no_bytes = refl
 
-pub other-runs : check_index_answer sample (set sample_index 0 3) ≡ Refused IndexFrame
+pub other-runs : check_index_answer sample (set sample_index 0 3) ≡ Err IndexFrame
 unfolding checked
 other-runs = refl
 
-pub byte-2 : check_index_answer sample (set sample_index 2 1) ≡ Refused IndexFrame
+pub byte-2 : check_index_answer sample (set sample_index 2 1) ≡ Err IndexFrame
 unfolding checked
 byte-2 = refl
 
-pub byte-3 : check_index_answer sample (set sample_index 3 1) ≡ Refused IndexFrame
+pub byte-3 : check_index_answer sample (set sample_index 3 1) ≡ Err IndexFrame
 unfolding checked
 byte-3 = refl
 
 -- the segment size,
-pub size-1 : check_index_answer sample (without 1) ≡ Refused IndexFrame
+pub size-1 : check_index_answer sample (without 1) ≡ Err IndexFrame
 unfolding checked
 size-1 = refl
 
@@ -95,16 +94,16 @@ pub size-128 : check_index_answer sample (without 128) ≡ wrong 0
 unfolding checked
 size-128 = refl
 
-pub size-129 : check_index_answer sample (without 129) ≡ Refused IndexFrame
+pub size-129 : check_index_answer sample (without 129) ≡ Err IndexFrame
 unfolding checked
 size-129 = refl
 
 -- the length
-pub byte-missing : check_index_answer sample (take 23 sample_index) ≡ Refused IndexFrame
+pub byte-missing : check_index_answer sample (take 23 sample_index) ≡ Err IndexFrame
 unfolding checked
 byte-missing = refl
 
-pub byte-after : check_index_answer sample (sample_index ++ (0 ∷ [])) ≡ Refused IndexFrame
+pub byte-after : check_index_answer sample (sample_index ++ (0 ∷ [])) ≡ Err IndexFrame
 unfolding checked
 byte-after = refl
 
@@ -161,11 +160,11 @@ unfolding checked
 oldest-first = refl
 
 -- a gone record is marked so, old or not, and what stands below it is old
-pub gone : check_index_answer (twice 1 0) (spelling (four 0x40 0x81 0x3f 0x3f)) ≡ Segments 1
+pub gone : check_index_answer (twice 1 0) (spelling (four 0x40 0x81 0x3f 0x3f)) ≡ Ok 1
 unfolding checked
 gone = refl
 
-pub gone_old : check_index_answer (twice 1 1) (spelling (four 0x40 0xc1 0x3f 0x3f)) ≡ Segments 1
+pub gone_old : check_index_answer (twice 1 1) (spelling (four 0x40 0xc1 0x3f 0x3f)) ≡ Ok 1
 unfolding checked
 gone_old = refl
 

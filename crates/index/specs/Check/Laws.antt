@@ -3,7 +3,8 @@
 --     says-check    whatever the table gives is check index's answer
 --     says-one      so the table gives one answer
 --     check-says    and check index gives an answer exactly when the table does
-use Rattle.std.specs.Prelude.{◌≡◌, ◌↔◌, true, false, cond, List, [], ◌++◌, take}
+use Rattle.refusal.specs.declared.Refusal.{Refusal}
+use Rattle.std.specs.Prelude.{◌≡◌, ◌↔◌, true, false, cond, List, [], ◌++◌, take, Ok, Err, Result}
 use Rattle.std.proofs.Math.Path.{refl, sym, ap}
 use Rattle.std.proofs.Common.{◌∙◌, subst, subst₂, zero-add, add-zero, le_refl, append-nil}
 use Prim.Native.Nat.{ℕ, suc, ◌+◌, ◌-◌, ◌≤◌}
@@ -11,14 +12,10 @@ use native.Mathlib.Omega.{arith}
 use Rattle.refusal.specs.declared.Refusal.TheVariants.{IndexFrame, Segment}
 use Rattle.theory.specs.Tests.{split, cases, clash}
 use Rattle.theory.specs.View.{view}
-use Rattle.tray.specs.declared.TrayAnswer.{TrayAnswer}
-use Rattle.tray.specs.declared.TrayAnswer.TheVariants.{Records, Refused as TrayRefused}
 use Rattle.tray.specs.Frame.{run_count, records_before}
 use Rattle.tray.specs.Check.{check_tray_answer, Sound}
 use Rattle.tray.proofs.Check.Theorems.{answers-records}
 use Rattle.tray.specs.Meaning.{runs_of}
-use Rattle.index.specs.declared.IndexAnswer.{IndexAnswer}
-use Rattle.index.specs.declared.IndexAnswer.TheVariants.{Segments, Refused}
 use Rattle.index.specs.Layout.{size_of, segment_count, segment_of, segments_of, IndexFramed, index_framed}
 use Rattle.index.specs.Layout
 use Rattle.index.specs.Layout.Laws.{index-fits, fits-index, take-listed, listed-some}
@@ -44,7 +41,7 @@ module _ (t x : List ℕ) where
   scanned = scan_from t (run_count t) x (size_of x) (segment_count x) 0 (places_of [])
 
   -- the answer after it
-  abbrev answer : Scanned → IndexAnswer
+  abbrev answer : Scanned → Result ℕ Refusal
   answer o = after_scan t (run_count t) (segment_count x) o
 
   judge-is : judge_index t x ≡ answer scanned
@@ -88,18 +85,18 @@ module _ (t x : List ℕ) where
   unfolding check_index_answer after_tray framed_index
   says = go (check_tray_answer t) refl
     where
-      go : (a : TrayAnswer) → check_tray_answer t ≡ a → Says t x (after_tray t x a)
-      go (TrayRefused r) e = refused-tray r e
-      go (Records n) e =
+      go : (a : Result ℕ Refusal) → check_tray_answer t ≡ a → Says t x (after_tray t x a)
+      go (Err r) e = refused-tray r e
+      go (Ok n) e =
           let sound = ((answers-records t n).0 e).0 in
           split (Says t x) (index_framed (run_count t) x) (λ y. says-judged sound (index-fits (run_count t) x y))
           (λ y. refused-4 sound (λ f. clash (fits-index (run_count t) x f) y))
 
-  check_sound : Sound t → check_index_answer t x ≡ cond (index_framed (run_count t) x) (judge_index t x) (Refused IndexFrame)
+  check_sound : Sound t → check_index_answer t x ≡ cond (index_framed (run_count t) x) (judge_index t x) (Err IndexFrame)
   unfolding check_index_answer after_tray framed_index
   check_sound sound = ap (after_tray t x) ((answers-records t (records_before t (run_count t))).1 (sound, refl))
 
-  check-frame : Sound t → (IndexFramed (run_count t) x → ⊥) → check_index_answer t x ≡ Refused IndexFrame
+  check-frame : Sound t → (IndexFramed (run_count t) x → ⊥) → check_index_answer t x ≡ Err IndexFrame
   check-frame sound f =
       check_sound sound
       ∙ cases (index_framed (run_count t) x) (λ y. absurd (f (index-fits (run_count t) x y))) (λ n. rw n)
@@ -135,7 +132,7 @@ module _ (t x : List ℕ) where
     unfolding scan_from
     scan-ends f = scan-past (segment_count x) 0 (sym (add-zero (segment_count x))) (rw all-taken f)
 
-    check-left : LeftOver (runs_of t) segments → check_index_answer t x ≡ Refused (Segment (segment_count x))
+    check-left : LeftOver (runs_of t) segments → check_index_answer t x ≡ Err (Segment (segment_count x))
     unfolding after_scan
     check-left v =
         let end = scan-ends v.right-all in
@@ -143,12 +140,12 @@ module _ (t x : List ℕ) where
         ∙ cases (used_up t (places_of v.behind) (run_count t))
         (λ y. absurd (v.some_left (used-none sound v.behind end.1 y))) (λ n. rw n)
 
-    check-accepted : Accepted (runs_of t) segments → check_index_answer t x ≡ Segments (segment_count x)
+    check-accepted : Accepted (runs_of t) segments → check_index_answer t x ≡ Ok (segment_count x)
     unfolding after_scan
     check-accepted f =
         let end = scan-ends f in check-judged end.0 ∙ rw (none-used sound (view key_of (runs_of t)) end.1)
 
-  pub says-check : {a : IndexAnswer} → Says t x a → check_index_answer t x ≡ a
+  pub says-check : {a : Result ℕ Refusal} → Says t x a → check_index_answer t x ≡ a
   unfolding check_index_answer after_tray framed_index after_scan
   says-check (refused-tray r e) = ap (after_tray t x) e
   says-check (refused-4 sound f) = check-frame sound f
@@ -156,9 +153,9 @@ module _ (t x : List ℕ) where
   says-check (left_over sound fits v) = check-left sound fits v
   says-check (accepted sound fits f) = check-accepted sound fits f
 
-  pub says-one : {a b : IndexAnswer} → Says t x a → Says t x b → a ≡ b
+  pub says-one : {a b : Result ℕ Refusal} → Says t x a → Says t x b → a ≡ b
   says-one a b = sym (says-check a) ∙ says-check b
 
   -- check index gives an answer exactly when the table does
-  pub check-says : (a : IndexAnswer) → (check_index_answer t x ≡ a) ↔ Says t x a
+  pub check-says : (a : Result ℕ Refusal) → (check_index_answer t x ≡ a) ↔ Says t x a
   check-says a = (λ e. subst (Says t x) e says, λ s. says-check s)

@@ -5,7 +5,7 @@
 --     refuses-5            5: the first wrong segment, or S for left-over records
 --     never-right          no right segment has a selector 0x7f, 0xbf or 0xff
 --     never-accepted       and no accepted index
-use Rattle.std.specs.Prelude.{◌≡◌, refl, ◌↔◌, ℕ, ◌%◌, ◌≤◌, List, ◌++◌, length}
+use Rattle.std.specs.Prelude.{◌≡◌, refl, ◌↔◌, ℕ, ◌%◌, ◌≤◌, List, ◌++◌, length, Ok, Err, Result}
 use Rattle.std.proofs.Common.{sym, ap, ◌∙◌, subst, ⊎_elim, arith, append_assoc}
 use mathlib.Core.List.Memᴰ
 use Rattle.refusal.specs.declared.Refusal.{Refusal}
@@ -17,14 +17,10 @@ use Rattle.theory.specs.Tests.{never}
 use Rattle.theory.specs.View.{view}
 use Rattle.theory.proofs.View.Entries.{at-run}
 use Rattle.theory.proofs.View.Laws.{view-at}
-use Rattle.tray.specs.declared.TrayAnswer.{TrayAnswer}
-use Rattle.tray.specs.declared.TrayAnswer.TheVariants.{Refused as TrayRefused}
 use Rattle.tray.specs.Frame.{run_count}
 use Rattle.tray.specs.Check.{check_tray_answer, Sound, Says as TraySays, refused-1, refused-2, refused-3, records}
 use Rattle.tray.proofs.Check.Laws.{check-says as tray-says}
 use Rattle.tray.specs.Meaning.{runs_of}
-use Rattle.index.specs.declared.IndexAnswer.{IndexAnswer}
-use Rattle.index.specs.declared.IndexAnswer.TheVariants.{Segments, Refused}
 use Rattle.index.specs.Layout.{segment_count, segments_of, IndexFramed}
 use Rattle.index.specs.Layout
 use Rattle.index.specs.Rules.{placeholder, key_of, Item, selector_of, Right, Follows, here, next, Accepted, FirstWrong, LeftOver}
@@ -39,10 +35,10 @@ number_of r = (verdict_of r).number
 
 module _ (t : List ℕ) where
   -- check tray gives 1, 2 and 3 alone
-  tray-number : (r : Refusal) → check_tray_answer t ≡ TrayRefused r → number_of r ≤ 3
-  tray-number r e = from ((tray-says t (TrayRefused r)).0 e) refl
+  tray-number : (r : Refusal) → check_tray_answer t ≡ Err r → number_of r ≤ 3
+  tray-number r e = from ((tray-says t (Err r)).0 e) refl
     where
-      from : {a : TrayAnswer} → TraySays t a → a ≡ TrayRefused r → number_of r ≤ 3
+      from : {a : Result ℕ Refusal} → TraySays t a → a ≡ Err r → number_of r ≤ 3
       from (refused-1 f) q = let p : TrayFrame ≡ r = cc in omega (arith, ap number_of p)
       from (refused-2 n i j f a b u k) q = let p : KeyOrder n ≡ r = cc in omega (arith, ap number_of p)
       from (refused-3 n i j f a b u) q = let p : RecordKind n ≡ r = cc in omega (arith, ap number_of p)
@@ -50,14 +46,14 @@ module _ (t : List ℕ) where
 
   module _ (x : List ℕ) where
     -- without a refusal check index answers S, and that exactly when the index follows the rules
-    pub answers-segments : (n : ℕ) → (check_index_answer t x ≡ Segments n)
+    pub answers-segments : (n : ℕ) → (check_index_answer t x ≡ Ok n)
         ↔ (Sound t × IndexFramed (run_count t) x × Accepted (runs_of t) (segments_of (run_count t) x) × (n ≡ segment_count x))
     answers-segments n = (
-      λ e. from ((check-says t x (Segments n)).0 e) refl,
-      λ w. (check-says t x (Segments n)).1 (subst (λ m. Says t x (Segments m)) (sym w.3) (accepted w.0 w.1 w.2)),
+      λ e. from ((check-says t x (Ok n)).0 e) refl,
+      λ w. (check-says t x (Ok n)).1 (subst (λ m. Says t x (Ok m)) (sym w.3) (accepted w.0 w.1 w.2)),
     )
       where
-        from : {a : IndexAnswer} → Says t x a → a ≡ Segments n
+        from : {a : Result ℕ Refusal} → Says t x a → a ≡ Ok n
             → Sound t × IndexFramed (run_count t) x × Accepted (runs_of t) (segments_of (run_count t) x) × (n ≡ segment_count x)
         from (refused-tray r e) q = never (cc)
         from (refused-4 s f) q = never (cc)
@@ -66,24 +62,24 @@ module _ (t : List ℕ) where
         from (accepted s f w) q = (s, f, w, cc)
 
     -- 1 to 3: check tray refuses so
-    pub refuses-tray : (r : Refusal) → number_of r ≤ 3 → (check_index_answer t x ≡ Refused r) ↔ (check_tray_answer t ≡ TrayRefused r)
-    refuses-tray r l = (λ e. from ((check-says t x (Refused r)).0 e) refl, λ e. (check-says t x (Refused r)).1 (refused-tray r e))
+    pub refuses-tray : (r : Refusal) → number_of r ≤ 3 → (check_index_answer t x ≡ Err r) ↔ (check_tray_answer t ≡ Err r)
+    refuses-tray r l = (λ e. from ((check-says t x (Err r)).0 e) refl, λ e. (check-says t x (Err r)).1 (refused-tray r e))
       where
-        from : {a : IndexAnswer} → Says t x a → a ≡ Refused r → check_tray_answer t ≡ TrayRefused r
-        from (refused-tray m e) q = let p : m ≡ r = cc in e ∙ ap TrayRefused p
+        from : {a : Result ℕ Refusal} → Says t x a → a ≡ Err r → check_tray_answer t ≡ Err r
+        from (refused-tray m e) q = let p : m ≡ r = cc in e ∙ ap Err p
         from (refused-4 s f) q = let p : IndexFrame ≡ r = cc in absurd (omega (arith, ap number_of p))
         from (refused-5 m s f w) q = let p : Segment m ≡ r = cc in absurd (omega (arith, ap number_of p))
         from (left_over s f w) q = let p : Segment (segment_count x) ≡ r = cc in absurd (omega (arith, ap number_of p))
         from (accepted s f w) q = never (cc)
 
     -- 4: the tray is sound, and the index breaks the frame
-    pub refuses-4 : (check_index_answer t x ≡ Refused IndexFrame) ↔ (Sound t × (IndexFramed (run_count t) x → ⊥))
+    pub refuses-4 : (check_index_answer t x ≡ Err IndexFrame) ↔ (Sound t × (IndexFramed (run_count t) x → ⊥))
     refuses-4 = (
-      λ e. from ((check-says t x (Refused IndexFrame)).0 e) refl,
-      λ w. (check-says t x (Refused IndexFrame)).1 (refused-4 w.0 w.1),
+      λ e. from ((check-says t x (Err IndexFrame)).0 e) refl,
+      λ w. (check-says t x (Err IndexFrame)).1 (refused-4 w.0 w.1),
     )
       where
-        from : {a : IndexAnswer} → Says t x a → a ≡ Refused IndexFrame → Sound t × (IndexFramed (run_count t) x → ⊥)
+        from : {a : Result ℕ Refusal} → Says t x a → a ≡ Err IndexFrame → Sound t × (IndexFramed (run_count t) x → ⊥)
         from (refused-tray r e) q = let p : r ≡ IndexFrame = cc in absurd (omega (arith, tray-number r e, ap number_of p))
         from (refused-4 s f) q = (s, f)
         from (refused-5 m s f w) q = never (cc)
@@ -96,20 +92,20 @@ module _ (t : List ℕ) where
       all_right : LeftOver (runs_of t) (segments_of (run_count t) x) → Figure (segment_count x)
 
     -- 5: the tray is sound, the index has the frame, and n is this figure
-    pub refuses-5 : (n : ℕ) → (check_index_answer t x ≡ Refused (Segment n)) ↔ (Sound t × IndexFramed (run_count t) x × Figure n)
+    pub refuses-5 : (n : ℕ) → (check_index_answer t x ≡ Err (Segment n)) ↔ (Sound t × IndexFramed (run_count t) x × Figure n)
     refuses-5 n = (
-      λ e. from ((check-says t x (Refused (Segment n))).0 e) refl,
-      λ w. (check-says t x (Refused (Segment n))).1 (to w.0 w.1 w.2),
+      λ e. from ((check-says t x (Err (Segment n))).0 e) refl,
+      λ w. (check-says t x (Err (Segment n))).1 (to w.0 w.1 w.2),
     )
       where
-        from : {a : IndexAnswer} → Says t x a → a ≡ Refused (Segment n) → Sound t × IndexFramed (run_count t) x × Figure n
+        from : {a : Result ℕ Refusal} → Says t x a → a ≡ Err (Segment n) → Sound t × IndexFramed (run_count t) x × Figure n
         from (refused-tray r e) q = let p : r ≡ Segment n = cc in absurd (omega (arith, tray-number r e, ap number_of p))
         from (refused-4 s f) q = never (cc)
         from (refused-5 m s f w) q = let p : m ≡ n = cc in (s, f, subst Figure p (first-wrong w))
         from (left_over s f w) q = let p : segment_count x ≡ n = cc in (s, f, subst Figure p (all_right w))
         from (accepted s f w) q = never (cc)
 
-        to : {m : ℕ} → Sound t → IndexFramed (run_count t) x → Figure m → Says t x (Refused (Segment m))
+        to : {m : ℕ} → Sound t → IndexFramed (run_count t) x → Figure m → Says t x (Err (Segment m))
         to s f (first-wrong w) = refused-5 _ s f w
         to s f (all_right w) = left_over s f w
 
@@ -139,6 +135,6 @@ follows-alone {t} {b = b} few whole (next {own = own} {v = v} p r f) s m =
     ⊎_elim (λ e. subst PlaceholderAlone (sym e) (never-right few apart r))
     (λ k. follows-alone few (apart ∙ sym (append_assoc b own v)) f s k) (Memᴰ.cases_cons m)
 
-pub never-accepted : (t x : List ℕ) (n : ℕ) → check_index_answer t x ≡ Segments n
+pub never-accepted : (t x : List ℕ) (n : ℕ) → check_index_answer t x ≡ Ok n
     → (s : Layout.Segment) → Mem s (segments_of (run_count t) x) → PlaceholderAlone s
 never-accepted t x n e = let w = (answers-segments t x n).0 e in follows-alone (few-runs w.0) refl w.2

@@ -3,7 +3,7 @@
 --     high-not                  a selector of D or more belongs nowhere
 --     next-high, page-high      next and page there
 --     sought-narrow, page-narrow     so the narrow cursor's answer is the cursor's own
-use Rattle.std.specs.Prelude.{◌≡◌, refl, ℕ, ◌≤◌, ◌<◌, Bool, true, false, ◌&&◌, List, eqb, leb, ltb}
+use Rattle.std.specs.Prelude.{◌≡◌, refl, ℕ, ◌≤◌, ◌<◌, Bool, true, false, ◌&&◌, List, eqb, leb, ltb, Err}
 use Rattle.std.proofs.Common.{sym, ap, ◌∙◌, subst, arith, leb-true, leb-false, le-ltb, ne_eqb}
 use Rattle.refusal.specs.declared.Refusal.{Refusal}
 use Rattle.refusal.specs.declared.Refusal.TheVariants.{Cursor as NotBelonging}
@@ -16,9 +16,9 @@ use Rattle.walk.specs.Walk.{Spot}
 use Rattle.walk.specs.Reads.{belongs}
 use Rattle.walk.specs.Code.{spot_of}
 use Rattle.answers.specs.Quick.{in_frames}
-use Rattle.answers.specs.Next.{refused_next, next_framed, next_answer}
+use Rattle.answers.specs.Next.{next_framed, next_answer}
 use Rattle.answers.specs.Page.{refused_page, page_framed, left_framed, page_answer, page_leaves}
-use Rattle.kanyorith.specs.Promises.{cursor_left, Sought, page_cursor_left, Paging}
+use Rattle.kanyorith.specs.Promises.{Sought, Paging}
 use Rattle.theorems.specs.Wide.{narrowed-same, narrow_high}
 use Rattle.theorems.specs.Cursors.Laws.{narrow_cursor}
 
@@ -43,7 +43,7 @@ module _ (t x : List ℕ) (c : Cursor) (high : 128 < c.selector) where
   unfolding spot_of
   not-belongs f = let m = (index-fits (run_count t) x f).most in high-not (run_count t) x (spot_of c) (omega arith) (omega arith)
 
-  pub next-high : next_answer t x c ≡ refused_next c (refusal_at t x c.segment.0)
+  pub next-high : next_answer t x c ≡ Err (refusal_at t x c.segment.0)
   unfolding next_answer next_framed refusal_at in_frames
   next-high =
       cases (framed t)
@@ -51,7 +51,7 @@ module _ (t x : List ℕ) (c : Cursor) (high : 128 < c.selector) where
       (λ n. rw n)
 
   module _ (out : List ℕ) where
-    pub page-high : page_answer t x c out ≡ refused_page c (refusal_at t x c.segment.0)
+    pub page-high : page_answer t x c out ≡ refused_page (refusal_at t x c.segment.0)
     unfolding page_answer page_framed refusal_at in_frames
     page-high =
         cases (framed t)
@@ -75,27 +75,16 @@ narrow-still : (c : Cursor) → 255 < c.selector → 128 < (narrow_cursor c).sel
 unfolding narrow_cursor
 narrow-still c l = subst (λ n. 128 < n) (narrow_high l) (omega arith)
 
--- a refusal leaves the same, whatever cursor it tells
-refused-sought : (c d : Cursor) (r : Refusal) {run place number figure run' place' : ℕ} {cursor cursor' : List ℕ}
-    → Sought (refused_next c r) run place cursor number figure run' place' cursor' → Sought (refused_next d r) run place cursor number figure run' place' cursor'
-unfolding cursor_left
-refused-sought c d r s = record { answers = s.answers; run-left = s.run-left; place-left = s.place-left; cursor-left = s.cursor-left }
-
-refused-paging : (c d : Cursor) (r : Refusal) {number figure count : ℕ} {leaves cursor cursor' left : List ℕ}
-    → Paging (refused_page c r) leaves cursor number figure count cursor' left → Paging (refused_page d r) leaves cursor number figure count cursor' left
-unfolding page_cursor_left
-refused-paging c d r s = record { answers = s.answers; counts = s.counts; cursor-left = s.cursor-left; leaving = s.leaving }
-
 module _ (t x : List ℕ) (c : Cursor) where
   -- the refusal of both
   abbrev why : Refusal
   why = refusal_at t x c.segment.0
 
-  narrow-refused : 255 < c.selector → next_answer t x (narrow_cursor c) ≡ refused_next (narrow_cursor c) why
+  narrow-refused : 255 < c.selector → next_answer t x (narrow_cursor c) ≡ Err why
   unfolding narrow_cursor
   narrow-refused l = next-high t x (narrow_cursor c) (narrow-still c l)
 
-  narrow-paged : (out : List ℕ) → 255 < c.selector → page_answer t x (narrow_cursor c) out ≡ refused_page (narrow_cursor c) why
+  narrow-paged : (out : List ℕ) → 255 < c.selector → page_answer t x (narrow_cursor c) out ≡ refused_page why
   unfolding narrow_cursor
   narrow-paged out l = page-high t x (narrow_cursor c) (narrow-still c l) out
 
@@ -108,7 +97,7 @@ module _ (t x : List ℕ) (c : Cursor) where
       (λ n.
       let l : 255 < c.selector = leb-false c.selector 255 n in
       subst (λ a. Sought a run place cursor number figure run' place' cursor') (sym (next-high t x c (omega arith)))
-      (refused-sought (narrow_cursor c) c why (subst (λ a. Sought a run place cursor number figure run' place' cursor') (narrow-refused l) s)))
+      (subst (λ a. Sought a run place cursor number figure run' place' cursor') (narrow-refused l) s))
 
   pub page-narrow : (out : List ℕ) {number figure count : ℕ} {cursor cursor' left : List ℕ}
       → Paging (page_answer t x (narrow_cursor c) out) (page_leaves t x (narrow_cursor c) out) cursor number figure count cursor' left
@@ -119,6 +108,5 @@ module _ (t x : List ℕ) (c : Cursor) where
       (λ n.
       let l : 255 < c.selector = leb-false c.selector 255 n in
       subst (λ a. Paging a (page_leaves t x c out) cursor number figure count cursor' left) (sym (page-high t x c (omega arith) out))
-      (subst (λ w. Paging (refused_page c why) w cursor number figure count cursor' left) (leaves-high t x (narrow_cursor c) (narrow-still c l) out ∙ sym (leaves-high t x c (omega arith) out))
-      (refused-paging (narrow_cursor c) c why
-      (subst (λ a. Paging a (page_leaves t x (narrow_cursor c) out) cursor number figure count cursor' left) (narrow-paged out l) s))))
+      (subst (λ w. Paging (refused_page why) w cursor number figure count cursor' left) (leaves-high t x (narrow_cursor c) (narrow-still c l) out ∙ sym (leaves-high t x c (omega arith) out))
+      (subst (λ a. Paging a (page_leaves t x (narrow_cursor c) out) cursor number figure count cursor' left) (narrow-paged out l) s)))

@@ -1,5 +1,9 @@
--- `kanyorith::kanyorith_page` meets its promise: a way out for each answer.
-use mathlib.Core.Path.{subst, ap, ◌∙◌}
+-- A way out for each answer.
+use Rattle.std.proofs.Common.{◌≡◌, Ok, Result, subst, ap, ◌∙◌, rules}
+use Rattle.refusal.specs.declared.Refusal.{Refusal}
+use Rattle.answers.specs.declared.Paged.{Paged}
+use Rattle.answers.specs.declared.Rest.{Rest}
+use Rattle.answers.specs.declared.Rest.TheVariants.{More, End}
 use Rattle.answers.specs.Page.{page_answer, page_leaves}
 use Rattle.kanyorith.proofs.CodeLaws.Narrow.{page-narrow}
 use Rattle.kanyorith.specs.Code.{page-more, page-end, page-refused}
@@ -8,71 +12,53 @@ use Rattle.theorems.specs.Cursors.{cursor_in}
 use Rattle.kanyorith.specs.Promises.{Paging}
 use Rattle.kanyorith.proofs.kanyorith_page.Goals as goal
 
-pub returns-in-More : goal.returns-in-More
-returns-in-More c =
-    let put-cursor-numbers-last = c.put_cursor.new.numbers in
-    let back = c in
-    let back = back in
-    let page = back.page-p in
-    let page-out-last = back.page-p.new.out in
-    let cursor-in = back.cursor_in-from in
-    let args = back.args in
+pub returns-in-Ok-More : goal.returns-in-Ok-More
+returns-in-Ok-More c =
+    let t = c.args.tray.now in
+    let x = c.args.index.now in
+    let out = c.args.out.now in
+    let given = cursor_in c.args.cursor.now in
+    let a = c.in-Ok-More.is in
+    let b = c.in-Ok-More.field-0-is in
+    let e : ◌≡◌ {A = Result Rest Refusal} c.page-p.result.rest (Ok (More c.in-Ok-More.c)) = search rules in
+    let left = c.page-p.ensures.out_after ∙ ap (λ k. page_leaves t x k out) c.cursor_in-from.ensures in
     record {
-      paging = page-narrow
-          args.tray.now
-          args.index.now
-          (cursor_in args.cursor.now)
-          args.out.now
+      paging = page-narrow t x given out
           (subst
-          (λ a. Paging a (page_leaves args.tray.now args.index.now (narrow_cursor (cursor_in args.cursor.now)) args.out.now)
-          args.cursor.now 0 1 page.result.count put-cursor-numbers-last page-out-last)
-          (page.ensures.value ∙ ap (λ k. page_answer args.tray.now args.index.now k args.out.now) cursor-in.ensures)
-          (page-more (page.ensures.out_after ∙ ap (λ k. page_leaves args.tray.now args.index.now k args.out.now) cursor-in.ensures)
-          c.in-More.is c.put_cursor.ensures));
+          (λ (p : Paged). Paging p (page_leaves t x (narrow_cursor given) out) c.args.cursor.now 0 1 c.page-p.result.count c.put_cursor.new.numbers c.page-p.new.out)
+          (c.page-p.ensures.value ∙ ap (λ k. page_answer t x k out) c.cursor_in-from.ensures)
+          (page-more left e c.put_cursor.ensures));
     }
 
-pub returns-in-End : goal.returns-in-End
-returns-in-End c =
-    let put-cursor2-numbers-last = c.put_cursor-in-End.new.numbers in
-    let back = c in
-    let back = back in
-    let page = back.page-p in
-    let page-out-last = back.page-p.new.out in
-    let cursor-in = back.cursor_in-from in
-    let args = back.args in
+pub returns-in-Ok-End : goal.returns-in-Ok-End
+returns-in-Ok-End c =
+    let t = c.args.tray.now in
+    let x = c.args.index.now in
+    let out = c.args.out.now in
+    let given = cursor_in c.args.cursor.now in
+    let a = c.in-Ok-End.is in
+    let b = c.in-Ok-End.field-0-is in
+    let e : ◌≡◌ {A = Result Rest Refusal} c.page-p.result.rest (Ok (End c.in-Ok-End.c)) = search rules in
+    let left = c.page-p.ensures.out_after ∙ ap (λ k. page_leaves t x k out) c.cursor_in-from.ensures in
     record {
-      paging = page-narrow
-          args.tray.now
-          args.index.now
-          (cursor_in args.cursor.now)
-          args.out.now
+      paging = page-narrow t x given out
           (subst
-          (λ a. Paging a (page_leaves args.tray.now args.index.now (narrow_cursor (cursor_in args.cursor.now)) args.out.now)
-          args.cursor.now 0 0 page.result.count put-cursor2-numbers-last page-out-last)
-          (page.ensures.value ∙ ap (λ k. page_answer args.tray.now args.index.now k args.out.now) cursor-in.ensures)
-          (page-end (page.ensures.out_after ∙ ap (λ k. page_leaves args.tray.now args.index.now k args.out.now) cursor-in.ensures)
-          c.in-End.is c.put_cursor-in-End.ensures));
+          (λ (p : Paged). Paging p (page_leaves t x (narrow_cursor given) out) c.args.cursor.now 0 0 c.page-p.result.count c.put_cursor-in-Ok-End.new.numbers c.page-p.new.out)
+          (c.page-p.ensures.value ∙ ap (λ k. page_answer t x k out) c.cursor_in-from.ensures)
+          (page-end left e c.put_cursor-in-Ok-End.ensures));
     }
 
-pub returns-in-Refused : goal.returns-in-Refused
-returns-in-Refused c =
-    let refuse-figure-last = c.refuse.new.figure in
-    let back = c in
-    let back = back in
-    let page = back.page-p in
-    let page-out-last = back.page-p.new.out in
-    let cursor-in = back.cursor_in-from in
-    let args = back.args in
+pub returns-in-Err : goal.returns-in-Err
+returns-in-Err c =
+    let t = c.args.tray.now in
+    let x = c.args.index.now in
+    let out = c.args.out.now in
+    let given = cursor_in c.args.cursor.now in
+    let left = c.page-p.ensures.out_after ∙ ap (λ k. page_leaves t x k out) c.cursor_in-from.ensures in
     record {
-      paging = page-narrow
-          args.tray.now
-          args.index.now
-          (cursor_in args.cursor.now)
-          args.out.now
+      paging = page-narrow t x given out
           (subst
-          (λ a. Paging a (page_leaves args.tray.now args.index.now (narrow_cursor (cursor_in args.cursor.now)) args.out.now)
-          args.cursor.now c.refuse.result refuse-figure-last page.result.count args.cursor.now page-out-last)
-          (page.ensures.value ∙ ap (λ k. page_answer args.tray.now args.index.now k args.out.now) cursor-in.ensures)
-          (page-refused (page.ensures.out_after ∙ ap (λ k. page_leaves args.tray.now args.index.now k args.out.now) cursor-in.ensures)
-          c.in-Refused.is c.refuse.ensures));
+          (λ (p : Paged). Paging p (page_leaves t x (narrow_cursor given) out) c.args.cursor.now c.refuse.result c.refuse.new.figure c.page-p.result.count c.args.cursor.now c.page-p.new.out)
+          (c.page-p.ensures.value ∙ ap (λ k. page_answer t x k out) c.cursor_in-from.ensures)
+          (page-refused left c.in-Err.is c.refuse.ensures));
     }

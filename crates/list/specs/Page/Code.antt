@@ -1,10 +1,8 @@
 -- What the code of page needs of the definitions.
 --     put-listed                               key and value written 8 bytes at a time
 --     visit-write, visit-full, visit-marked    what page does at a selector
---     Paging                                   both loops of the page
---     paging-first, paging-inner, paging-back, paging-enter    where they begin
---     paging-pass, paging-write, paging-marked                 their turns
-use Rattle.std.specs.Prelude.{◌≡◌, refl, ℕ, ◌+◌, ◌*◌, ◌/◌, ◌%◌, ◌^◌, ◌≤◌, ◌<◌, length, get_or, set}
+--     page-writes, page-skips                  and how it goes on
+use Rattle.std.specs.Prelude.{◌≡◌, ℕ, ◌+◌, ◌*◌, ◌%◌, ◌^◌, ◌≤◌, ◌<◌, length, get_or}
 use Rattle.std.proofs.Math.Path.{sym, ap₂}
 use Rattle.std.proofs.Common.{ap, ◌∙◌, length-append}
 use native.Mathlib.Omega.{arith}
@@ -12,18 +10,20 @@ use mathlib.Core.List.{List, ◌++◌, append_assoc}
 use borrow.Author.Tests.{lt-ltb, le-ltb, le-leb, lt-leb}
 use Rattle.number.specs.Big.{be, bytes_of, put}
 use Rattle.number.proofs.Big.Laws.{be-add, bytes_of-add, length-bytes_of}
-use Rattle.number.proofs.Big.Writes.{put-put, length-put}
+use Rattle.number.proofs.Big.Writes.{put-put}
 use Rattle.tray.specs.declared.Place.{Place}
 use Rattle.tray.specs.Frame.{run_count, run_bytes}
-use Rattle.index.specs.Layout.{segment_at}
 use Rattle.tray.specs.Run.{record_from, record_at}
-use Rattle.walk.specs.Walk.{stay, go, selector_at}
+use Rattle.walk.specs.Walk.{stay, go}
 use Rattle.walk.specs.Reads.{listed_bytes, write, unmarked, record_by, page_visit}
-use Rattle.walk.specs.Code.{placed, numbers, Walking}
-use Rattle.walk.specs.Code.Load.{loaded_from}
-use Rattle.walk.specs.Code.Turns.{Here, place_is, here-enter}
-use Rattle.walk.proofs.ReadsLaws.Page.{length-listed}
-use Rattle.list.specs.Steps.{spot_at, onward, here-first, here-inner, here_back, here-pass, here-go}
+use Rattle.walk.specs.Code.{placed, Walking}
+use Rattle.walk.specs.Code.Turns.{place_is}
+use Rattle.list.specs.Steps.{spot_at, here-go}
+use Rattle.walk.specs.Walk.{Spot, Walked, selector_at}
+use Rattle.walk.specs.Reads.{Written}
+use Rattle.walk.specs.Code.Turns.{Here}
+use Rattle.std.proofs.Common.{subst}
+use Rattle.std.specs.Prelude.{set}
 use Rattle.list.specs.Page.{so_far}
 
 -- a value's bytes in two halves
@@ -90,52 +90,22 @@ module _ {t x : List ℕ} {h d n : ℕ} {counts : List ℕ} (w : Walking t x h d
   unfolding page_visit unmarked
   visit-marked l = rw (le-ltb v 64 l)
 
--- both loops of the page: from here on it answers for the page from where the loop began, and the room is the same
-pub record Paging (t x : List ℕ) (d n slots g₀ s₀ : ℕ) (places₀ : List Place) (count₀ : ℕ) (out₀ : List ℕ) (g s : ℕ) (places : List Place) (count : ℕ) (out : List ℕ) : Type 0 where
-  pub here : Here t x (page_visit t) d n (onward t x (page_visit t) d n g₀ s₀ places₀ (so_far count₀ out₀)) g s places (so_far count out)
-  pub kept : length out ≡ length out₀
-  pub room : slots ≡ length out / 24
+-- so the page goes on past the record at selector s
+module _ {t x : List ℕ} {h d n : ℕ} {counts : List ℕ} (w : Walking t x h d n counts) {whole : Walked Written (Written × Spot)} {g s : ℕ} {places : List Place} {count : ℕ} {out : List ℕ}
+    (i : Here t x (page_visit t) d n whole g s places (so_far count out)) {v : ℕ} (l : s < d) (read : v ≡ selector_at (run_count t) x g s) (real : v ≡ 63 → ⊥) {k : ℕ} (below : v % 64 < h)
+    (e : k ≡ v % 64) (there : (get_or places k (placed 0)).0 < get_or counts k 0) where
+  abbrev behind : List Place
+  behind = set places k (placed ((get_or places k (placed 0)).0 + 1))
 
-pub paging-first : (t x : List ℕ) {d n slots g s : ℕ} (places : List Place) (count : ℕ) (out : List ℕ) → g < n → s ≤ d → length places ≡ 63 → slots ≡ length out / 24
-    → Paging t x d n slots g s places count out g s places count out
-paging-first t x places count out l k r m = record { here = here-first t x (page_visit t) places (so_far count out) l k r; kept = refl; room = m }
+  -- written,
+  pub page-writes : v < 64 → 24 * count + 24 ≤ length out → {count' : ℕ} {after : List ℕ} → count' ≡ count + 1
+      → after ≡ put out (24 * count) (listed_bytes (record_at (run_bytes t v) (get_or places k (placed 0)).0)) → Here t x (page_visit t) d n whole g (s + 1) behind (so_far count' after)
+  page-writes a room {after = after} c f =
+      subst (λ (m : ℕ). Here t x (page_visit t) d n whole g (s + 1) behind (so_far m after)) (sym c)
+      (here-go w i l read real below e there (visit-write w v places below e g s count out a room f))
 
-module _ {t x : List ℕ} {d n slots g₀ s₀ : ℕ} {places₀ : List Place} {count₀ : ℕ} {out₀ : List ℕ} {g s : ℕ} {places : List Place} {count : ℕ} {out : List ℕ} (i : Paging t x d n slots g₀ s₀ places₀ count₀ out₀ g s places count out) where
-  -- the loop over selectors begins
-  pub paging-inner : Paging t x d n slots g s places count out g s places count out
-  paging-inner = record { here = here-inner i.here; kept = refl; room = i.room }
-
-  -- and is left
-  pub paging-back : {j q : ℕ} {next : List Place} {m : ℕ} {after : List ℕ} → Paging t x d n slots g s places count out j q next m after
-      → Paging t x d n slots g₀ s₀ places₀ count₀ out₀ j q next m after
-  paging-back o = record { here = here_back i.here o.here; kept = o.kept ∙ i.kept; room = o.room }
-
-  module _ {h : ℕ} {counts : List ℕ} (w : Walking t x h d n counts) where
-    -- the next segment
-    pub paging-enter : {at : ℕ} {next : List Place} → d ≤ s → g + 1 < n → at ≡ segment_at h d (g + 1) → numbers next ≡ loaded_from h x at
-        → Paging t x d n slots g₀ s₀ places₀ count₀ out₀ (g + 1) 0 next count out
-    paging-enter l k e p = record { here = here-enter w i.here l k e p; kept = i.kept; room = i.room }
-
-    module _ {v : ℕ} (l : s < d) (read : v ≡ selector_at (run_count t) x g s) where
-      pub paging-pass : v ≡ 63 → Paging t x d n slots g₀ s₀ places₀ count₀ out₀ g (s + 1) places count out
-      paging-pass e = record { here = here-pass w i.here l read e; kept = i.kept; room = i.room }
-
-      module _ (real : v ≡ 63 → ⊥) {k : ℕ} (below : v % 64 < h) (e : k ≡ v % 64) (there : (get_or places k (placed 0)).0 < get_or counts k 0) where
-        pub paging-marked : 64 ≤ v
-            → Paging t x d n slots g₀ s₀ places₀ count₀ out₀ g (s + 1) (set places k (placed ((get_or places k (placed 0)).0 + 1))) count out
-        paging-marked a =
-            record { here = here-go w i.here l read real below e there (visit-marked w v places below e g s count out a); kept = i.kept; room = i.room }
-
-        pub paging-write : {after : List ℕ} → v < 64 → count < slots
-            → after ≡ put out (24 * count) (listed_bytes (record_at (run_bytes t v) (get_or places k (placed 0)).0))
-            → Paging t x d n slots g₀ s₀ places₀ count₀ out₀ g (s + 1) (set places k (placed ((get_or places k (placed 0)).0 + 1))) (count + 1) after
-        paging-write {after} a b f =
-            let m = i.room in
-            let fits : 24 * count + 24 ≤ length out = omega arith in
-            let e₂ : length (listed_bytes (record_at (run_bytes t v) (get_or places k (placed 0)).0)) ≡ 24 = length-listed (record_at (run_bytes t v) (get_or places k (placed 0)).0) in
-            let long : length after ≡ length out = ap length f ∙ length-put out (24 * count) (listed_bytes (record_at (run_bytes t v) (get_or places k (placed 0)).0)) (omega arith) in
-            record {
-              here = here-go w i.here l read real below e there (visit-write w v places below e g s count out a fits f);
-              kept = long ∙ i.kept;
-              room = omega arith;
-            }
+  -- or marked
+  pub page-skips : 64 ≤ v → {count' : ℕ} {after : List ℕ} → count' ≡ count → after ≡ out → Here t x (page_visit t) d n whole g (s + 1) behind (so_far count' after)
+  page-skips a c f =
+      subst (Here t x (page_visit t) d n whole g (s + 1) behind) (sym (ap₂ so_far c f))
+      (here-go w i l read real below e there (visit-marked w v places below e g s count out a))

@@ -1,12 +1,10 @@
 -- What the code that gathers needs of the definitions.
---     unmarked-is, unmarked-le                                   a selector as a number
 --     Gathering                                            the loop that gathers
---     gathering-first, gathering-pass, gathering-name      where it begins, and its turns
+--     gathering-pass, gathering-name                       its turns
 --     gathered-no-run, gathered-no-place, gathered-all     its ends
---     gathering-names, gathered-past                       the same of places as numbers
-use Rattle.std.specs.Prelude.{◌≡◌, refl, ℕ, suc, ◌+◌, ◌-◌, ◌*◌, ◌/◌, ◌%◌, ◌≤◌, ◌<◌, true, false, cond, length, set, ltb}
+use Rattle.std.specs.Prelude.{◌≡◌, refl, ℕ, suc, ◌+◌, ◌-◌, ◌*◌, ◌%◌, ◌≤◌, ◌<◌, true, false, cond, length, set}
 use Rattle.std.proofs.Math.Path.{sym, ap, ap₂}
-use Rattle.std.proofs.Common.{◌∙◌, subst, add-zero, add-one, length-set, take-suc-set, ltb-true, ltb-false}
+use Rattle.std.proofs.Common.{◌∙◌, add-zero, add-one, length-set, take-suc-set}
 use native.Mathlib.Omega.{arith}
 use mathlib.Core.List.{List, [], ◌∷◌, ◌++◌, map, append-nil, append_assoc}
 use Rattle.std.proofs.Math.ListN.{get_or, take}
@@ -17,19 +15,10 @@ use Rattle.tray.specs.Frame.{run_count, start_of, Starts}
 use Rattle.index.specs.Scan.{raise}
 use Rattle.walk.specs.Walk.{selector_at, named}
 use Rattle.walk.specs.Reads.{unmarked}
-use Rattle.walk.specs.Code.{placed, numbers, places_of, get_or-places, set-places, raise-numbers, Walking}
+use Rattle.walk.specs.Code.{placed, numbers, raise-numbers, Walking}
 use Rattle.walk.specs.Code.Turns.{named-run, named-yes, named_past, place_is}
 use Rattle.list.specs.Stops.{stops_in, stop_in, position_of, positions, GatheredFrom}
 use Rattle.list.specs.Stops.Laws.{stop_at, stops-pass, stops-name, stops-marked, stops-lost, stop-pass, stop-name, stop-lost}
-
--- a selector with neither mark is 1, any other 0
-pub unmarked-is : (v : ℕ) {w : ℕ} → v < 256 → w ≡ v → (319 - w) / 256 ≡ cond (unmarked v) 1 0
-unfolding unmarked
-unmarked-is v {w} l e = cases (ltb v 64) (λ y. let a = ltb-true v 64 y in rw y (omega arith)) (λ n. let a = ltb-false v 64 n in rw n (omega arith))
-
-pub unmarked-le : (v : ℕ) {u : ℕ} → u ≡ cond (unmarked v) 1 0 → u ≤ 1
-unfolding unmarked
-unmarked-le v {u} e = cases (ltb v 64) (λ y. let z : u ≡ 1 = e ∙ rw y in omega arith) (λ n. let z : u ≡ 0 = e ∙ rw n in omega arith)
 
 -- the loop that gathers: k records stand in `ats`, and with those from here on they are all; the segment ends where it does from here on
 pub record Gathering (t x : List ℕ) (d g s₀ : ℕ) (places₀ : List Place) (before : ℕ) (ats₀ : List ℕ) (s : ℕ) (places : List Place) (k : ℕ) (ats : List ℕ) : Type 0 where
@@ -40,11 +29,6 @@ pub record Gathering (t x : List ℕ) (d g s₀ : ℕ) (places₀ : List Place) 
   pub kept : length ats ≡ length ats₀
   pub stops : stop_in t x (d - s) g s (numbers places) ≡ stop_in t x (d - s₀) g s₀ (numbers places₀)
   pub same : take k ats ++ positions t x d g s places ≡ take before ats₀ ++ positions t x d g s₀ places₀
-
-pub gathering-first : (t x : List ℕ) {d g s : ℕ} {places : List Place} (before : ℕ) (ats : List ℕ) → s ≤ d → length places ≡ 63
-    → Gathering t x d g s places before ats s places before ats
-gathering-first t x before ats k r =
-    record { least = omega arith; few = omega arith; high = k; room = r; kept = refl; stops = refl; same = refl }
 
 module _ {t x : List ℕ} {d g s₀ : ℕ} {places₀ : List Place} {before : ℕ} {ats₀ : List ℕ} {s : ℕ} {places : List Place} {k : ℕ} {ats : List ℕ} (i : Gathering t x d g s₀ places₀ before ats₀ s places k ats) where
   -- the end of the segment
@@ -189,18 +173,3 @@ module _ {t x : List ℕ} {d g s₀ : ℕ} {places₀ : List Place} {before : �
                 cases (unmarked v)
                 (λ y. let one : u ≡ 1 = c ∙ rw y in rw one (listed y))
                 (λ y. let none : u ≡ 0 = c ∙ rw y in rw (none, add-zero) (marked a y))
-
--- the same of places as numbers
-module _ {t x : List ℕ} {d g s₀ : ℕ} {places₀ : List Place} {before : ℕ} {ats₀ : List ℕ} {s : ℕ} (ps : List ℕ) {k : ℕ} {ats : List ℕ} (i : Gathering t x d g s₀ places₀ before ats₀ s (places_of ps) k ats) where
-  module _ {h n : ℕ} {counts : List ℕ} (w : Walking t x h d n counts) {v : ℕ} (l : s < d) (read : v ≡ selector_at (run_count t) x g s) (real : v ≡ 63 → ⊥)
-      {j : ℕ} (below : v % 64 < h) (e : j ≡ v % 64) where
-    pub gathered-past : get_or counts j 0 ≤ get_or ps j 0 → GatheredFrom t x d g s₀ places₀ before ats₀ k s ats
-    gathered-past a = gathered-no-place i w l read real below e (subst (λ (q : ℕ). get_or counts j 0 ≤ q) (sym (get_or-places ps j)) a)
-
-    pub gathering-names : get_or ps j 0 < get_or counts j 0 → {starts : List ℕ} → Starts t starts → d + before ≤ s₀ + length ats
-        → {a q : ℕ} → a ≡ get_or starts j 0 + 25 * q → q ≡ get_or ps j 0 → {u : ℕ} → u ≡ cond (unmarked v) 1 0
-        → Gathering t x d g s₀ places₀ before ats₀ (s + 1) (places_of (set ps j (get_or ps j 0 + 1))) (k + u) (set ats k a)
-    gathering-names there o wide {a} {q} at place {u} c =
-        subst (λ (qs : List Place). Gathering t x d g s₀ places₀ before ats₀ (s + 1) qs (k + u) (set ats k a))
-        (ap (λ (m : ℕ). set (places_of ps) j (placed (m + 1))) (get_or-places ps j) ∙ set-places ps j (get_or ps j 0 + 1))
-        (gathering-name i w l read real below e (subst (λ (m : ℕ). m < get_or counts j 0) (sym (get_or-places ps j)) there) o wide at (place ∙ sym (get_or-places ps j)) c)

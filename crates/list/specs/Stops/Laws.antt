@@ -5,10 +5,10 @@
 --     walk-stops                                          a walk whose visitor passes marked records comes to these stops, and goes on or is lost
 --     record-part, record-run                             a record in a part of the tray, and in its run
 --     Right, stops-right                                  each stop is unmarked, and its record is the one at its position, inside the tray
---     within_none, within-at, within-take, within-append, within-stops, gathered-within     positions inside the tray
+--     within_none, within-take, within-append, within-stops, gathered-within     positions inside the tray
 use Rattle.std.specs.Prelude.{◌≡◌, true, false, cond, List, [], ◌∷◌, ◌++◌, map, take, drop, eqb, ltb}
 use Rattle.std.proofs.Math.Path.{refl, sym, ap}
-use Rattle.std.proofs.Common.{◌∙◌, subst, arith, length-take, get_or-take, get_or-drop, length-take-le}
+use Rattle.std.proofs.Common.{◌∙◌, subst, arith, length-take, get_or-take, get_or-drop}
 use Prim.Native.Nat.{ℕ, zero, suc, ◌+◌, ◌-◌, ◌*◌, ◌≤◌, ◌<◌}
 use Rattle.std.proofs.Math.ListN.{length, get_or}
 use borrow.Author.Tests.{eqb-true, eqb-false, eq-eqb, ne_eqb, ltb-true, lt-ltb, le-ltb}
@@ -169,12 +169,6 @@ module _ (t : List ℕ) (f : Framed t) where
 
 pub within_none : (t : List ℕ) → Within t []
 within_none t = record { ends = λ i l. absurd (omega arith) }
-
-pub within-at : {t : List ℕ} (ats : List ℕ) (k : ℕ) → Within t (take k ats) → (i : ℕ) → i < k → k ≤ length ats → get_or ats i 0 + 25 ≤ length t
-within-at {t} ats k w i l m =
-    let long : length (take k ats) ≡ k = length-take-le k ats m in
-    let there = w.ends i (omega arith) in
-    subst (λ (a : ℕ). a + 25 ≤ length t) (get_or-take k ats i 0 l) there
 
 pub within-take : {t : List ℕ} (m k : ℕ) (ats : List ℕ) → m ≤ k → Within t (take k ats) → Within t (take m ats)
 within-take {t} m k ats l w =

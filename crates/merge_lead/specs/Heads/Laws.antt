@@ -2,14 +2,12 @@
 --     key_has, key-past                           the key at a place
 --     next-is                                     the next key of a run, from the run's own bytes
 --     Found, found_none, found-more, found_all    the next keys, run by run
---     RunCut, run-cut                             a run cut out of the tray, with its count
 --     padded-none                                 before the first key
-use Rattle.std.specs.Prelude.{◌≡◌, ℕ, ◌+◌, ◌-◌, ◌*◌, ◌≤◌, ◌<◌, List, length, get_or, take, drop, set, replicate}
+use Rattle.std.specs.Prelude.{◌≡◌, ℕ, ◌+◌, ◌≤◌, ◌<◌, List, length, get_or, set, replicate}
 use Rattle.std.proofs.Common.{sym, ap, ◌∙◌, subst, add-one, arith, length-set, get_or-set_same, get_or-set_other, lt-ltb, le-ltb}
 use Rattle.std.proofs.lemmas.List.{length-replicate, get_or-replicate}
 use Rattle.tray.specs.Frame.{run_count, count_of, run_bytes}
 use Rattle.tray.specs.Frame.Laws.{upto}
-use Rattle.tray.proofs.FrameCode.{cut}
 use Rattle.tray.specs.Run.{record_at}
 use Rattle.index.specs.Scan.Code.{Reading}
 use Rattle.merge_lead.specs.Heads.{highest, key_or, next_key, Padded, Caching}
@@ -61,23 +59,6 @@ found_all {t} {places = places} {keys} {r} {h} g f e l =
     let in-range : r ≤ run_count t = f.within in
     let all : r ≡ run_count t = omega arith in
     record { reading = g; padded = subst (Padded keys) all f.padded; keys-are = λ i m. f.keys-are i (omega arith) }
-
--- run r cut out of the tray, with its count as the code has it
-pub record RunCut (t counts : List ℕ) (r i a e : ℕ) : Type 0 where
-  pub start : a ≤ e
-  pub end : e ≤ length t
-  pub few : get_or counts i 0 ≤ 4096
-  pub records : get_or counts i 0 ≡ count_of t r
-  pub whole : length (take (e - a) (drop a t)) ≡ 25 * get_or counts i 0
-  pub bytes : take (e - a) (drop a t) ≡ run_bytes t r
-
-pub run-cut : {t counts starts places : List ℕ} {r i : ℕ} → Reading t counts starts places → r < run_count t → i ≡ r
-    → RunCut t counts r i (get_or starts i 0) (get_or starts (i + 1) 0)
-run-cut {t} {counts} {starts} {r = r} {i} g l e =
-    let k = cut t g.at l e in
-    let n : get_or counts i 0 ≡ count_of t r = ap (λ (j : ℕ). get_or counts j 0) e ∙ g.counts-are r l in
-    let low : count_of t r ≤ 4096 = k.few in
-    record { start = k.start; end = k.end; few = omega arith; records = n; whole = k.whole ∙ ap (λ (j : ℕ). 25 * j) (sym n); bytes = k.bytes }
 
 -- no key is kept yet
 pub padded-none : Padded (replicate 64 highest) 0

@@ -1,10 +1,13 @@
 -- The run that comes next: the first of those with the least key, found block by block.
 pub mod Laws
 pub mod Next
-use Rattle.std.specs.Prelude.{ℕ, ◌+◌, ◌*◌, ◌≤◌, ◌<◌, ◌≡◌, List, length, get_or, set}
+use Rattle.std.specs.Prelude.{ℕ, ◌+◌, ◌*◌, ◌≤◌, ◌<◌, ◌≡◌, List, length, get_or, set, Option, MatchOption}
+use Rattle.tray.specs.declared.Tray.{Tray}
 use Rattle.tray.specs.Frame.{run_count, count_of, run_bytes}
 use Rattle.index.specs.Scan.{next_in}
-use Rattle.merge_lead.specs.Heads.{highest, key_or, next_key, Caching}
+use Rattle.merge_lead.specs.declared.Lead.{Lead}
+use Rattle.merge_lead.specs.declared.Heads.{Heads}
+use Rattle.merge_lead.specs.Heads.{highest, key_or, next_key, Padded, Caching}
 
 -- among the numbers from a on and below e, k is the least, and the first that is k is number r
 pub record First (keys : List ℕ) (a e k r : ℕ) : Type 0 where
@@ -50,22 +53,32 @@ pub record Nexts (t places nexts : List ℕ) (n : ℕ) : Type 0 where
   pub room : length nexts ≡ 64
   pub are : (r : ℕ) → r < n → get_or nexts r 0 ≡ key_or (run_bytes t r) (count_of t r) (get_or places r 0 + 1)
 
+-- nothing is kept of the runs yet
+pub record Bare (heads : Heads) : Type 0 where
+  pub padded : Padded heads.keys 0
+  pub nexts : length heads.nexts ≡ 64
+  pub tops : length heads.tops ≡ 8
+  pub firsts : length heads.firsts ≡ 8
+
 -- the runs, how far they have been read, and all that is kept of them
-pub record Heading (t counts starts places keys nexts tops firsts : List ℕ) : Type 0 where
-  pub caching : Caching t counts starts places keys
-  pub nexts-are : Nexts t places nexts (run_count t)
-  pub leading : Leading keys tops firsts 8
+pub record Heading (tray : Tray) (places : List ℕ) (heads : Heads) : Type 0 where
+  pub caching : Caching tray.bytes.now tray.counts tray.starts places heads.keys
+  pub nexts-are : Nexts tray.bytes.now places heads.nexts (run_count tray.bytes.now)
+  pub leading : Leading heads.keys heads.tops heads.firsts 8
 
--- r is the first run that is not at its end, or h
-pub record FirstLeft (counts places : List ℕ) (h r : ℕ) : Type 0 where
-  pub most : r ≤ h
-  pub left : r < h → get_or places r 0 < get_or counts r 0
-  pub before : (i : ℕ) → i < r → get_or counts i 0 ≤ get_or places i 0
+-- all of the first r runs are at their end
+abbrev pub EndedTo : List ℕ → List ℕ → ℕ → Type 0
+EndedTo counts places r = (i : ℕ) → i < r → get_or counts i 0 ≤ get_or places i 0
 
--- the run of a key, or the first that is not at its end where the key is the highest number
-pub data Chosen (counts places : List ℕ) (h k run : ℕ) : ℕ → Type 0 where
-  keyed : k < highest → Chosen counts places h k run run
-  left : {r : ℕ} → highest ≤ k → FirstLeft counts places h r → Chosen counts places h k run r
+-- the first of h runs that is not at its end
+pub record LeftAt (counts places : List ℕ) (h r : ℕ) : Type 0 where
+  pub run : r < h
+  pub left : get_or places r 0 < get_or counts r 0
+  pub before : EndedTo counts places r
+
+-- that run, or none
+abbrev pub FirstLeft : List ℕ → List ℕ → ℕ → Option ℕ → Type 0
+FirstLeft counts places h o = MatchOption o (EndedTo counts places h) (LeftAt counts places h)
 
 module _ (t : List ℕ) (h : ℕ) (places : List ℕ) where
   -- run r comes next, with key k or with the highest number: no run has a lower one, and no lower run has it
@@ -84,3 +97,7 @@ module _ (t : List ℕ) (h : ℕ) (places : List ℕ) where
   pub record LeastKey (m : ℕ) : Type 0 where
     pub low : (r : ℕ) → r < h → m ≤ next_key t places r
     pub got : m < highest → (r : ℕ) × (r < h) × (next_key t places r ≡ m)
+
+-- the run that comes next, with its key, or none
+abbrev pub Comes : Tray → List ℕ → Option Lead → Type 0
+Comes tray places o = MatchOption o (NoRun tray.bytes.now tray.runs places) (λ (l : Lead). NextRun tray.bytes.now tray.runs places l.run l.key)

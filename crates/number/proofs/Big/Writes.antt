@@ -1,5 +1,6 @@
 -- Laws of `put`. Beside the worked cases only this file looks inside it.
 --     put-sets             what one store a byte leaves is `put`
+--     put_mid-put          and so is what a stretch that is written over leaves
 --     length-put           the length stays
 --     take_put, drop-put   what stands up to the end of what was written, and after it
 --     put-put              one write right after another is one write
@@ -8,6 +9,7 @@
 --     be-put-in            a number that is read out of what was written
 --     be-put-same          a number whose bytes were written is read back
 --     be-put-before, be-put-after     a number that lies before or after what was written is as it was
+use borrow.Rule.Slice.PartMut.{put_mid}
 use Rattle.std.specs.Prelude.{◌≡◌, List, [], ◌∷◌, ◌++◌, ℕ, suc, ◌+◌, ◌-◌, ◌*◌, ◌/◌, ◌%◌, ◌^◌, ◌≤◌, ◌<◌, length, take, drop, set}
 use Rattle.std.proofs.Common.{sym, ap, ◌∙◌, append_assoc, add-zero, add_assoc, add-sub_of_le, mod-lt, div-add-mod', add-one, arith, length-append, take-append-drop, length-take-le, take_at, drop_at, drop-drop}
 use Rattle.std.proofs.Math.Nat.{one-le-pow}
@@ -20,6 +22,13 @@ use Rattle.number.proofs.Big.Laws.{be-take, be-drop, be-append-left, be-append-r
 pub put-sets : (s : List ℕ) (p : ℕ) (ys : List ℕ) → p + length ys ≤ length s → sets s p ys ≡ put s p ys
 unfolding put
 put-sets s p ys h = sets-eq ys s p h ∙ append_assoc (take p s) ys (drop (p + length ys) s)
+
+-- what a stretch that is written over leaves
+pub put_mid-put : (a k : ℕ) (s ys : List ℕ) → k ≡ length ys → put_mid a k s ys ≡ put s a ys
+unfolding put
+put_mid-put a k s ys e =
+    let end : a + k ≡ a + length ys = omega (arith, e) in
+    ap (λ (t : List ℕ). take a s ++ (ys ++ t)) (drop-drop k a s ∙ ap (λ (n : ℕ). drop n s) end)
 
 -- the length stays
 pub length-put : (s : List ℕ) (p : ℕ) (ys : List ℕ) → p + length ys ≤ length s → length (put s p ys) ≡ length s

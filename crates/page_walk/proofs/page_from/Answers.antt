@@ -1,15 +1,14 @@
--- `page_walk::page_from` meets its contract: both ways are the same page.
+-- Both ways are the same page.
+use Rattle.std.proofs.Common.{refl, ◌∙◌}
+use Rattle.walk.specs.Code.{spot_of}
 use Rattle.list.specs.Page.{begun}
+use Rattle.list.specs.Steps.{entering-first}
 use Rattle.page_walk.proofs.page_from.Goals as goal
 
-pub returns-then-usize_of_u8-out : goal.returns-then-usize_of_u8-out
+pub returns-then-size-out : goal.returns-then-size-out
 unfolding begun
-returns-then-usize_of_u8-out c =
-    let page-segments = c.page_segments in
-    page-segments.ensures
+returns-then-size-out c = c.page_segments.ensures
 
 pub returns : goal.returns
-unfolding begun
-returns c =
-    let page-on = c.page_on in
-    page-on.ensures
+unfolding begun spot_of
+returns c = c.page_on.ensures ∙ (entering-first _ _ _ _ _ _ _ refl).same

@@ -1,261 +1,90 @@
--- `seek_walk::seek_from` meets its contract. Invariants: the walk from here answers for the walk from this segment on, and this for the
--- whole. Measures: the selectors left, the segments left. Each way out is a law of `Code`.
-use mathlib.Core.Path.{refl, ◌∙◌}
-use lib.ListN.{length-set}
-use Rattle.walk.specs.Code.{segments-end, selectors-end, selectors-pass, selectors-lost, selectors-stay, selectors-go, raise-numbers}
-use Rattle.walk.specs.Code.Turns.{here-first, within, selector-is, named-yes, named_past, named-run}
-use Rattle.walk.specs.Code.Seek.{stays-run, stays-place, visit-go, visit-stay, stay-low, sight-is}
-use native.Mathlib.Omega.{arith}
+-- Invariants: the walk from here answers for the walk from this segment on, and this for the whole. Each way out is a law of `Code`.
+use Rattle.std.specs.Prelude.{◌≡◌, ℕ, ◌%◌, ◌<◌, List, get_or, Ok, Some}
+use Rattle.std.proofs.Common.{refl, ap, ◌∙◌, length-set}
+use Rattle.tray.specs.declared.Place.{Place}
+use Rattle.walk.specs.Code.{placed, Walking, numbers, sought_of, spot_of, segments-end, selectors-end, selectors-pass, selectors-lost, selectors-stay, selectors-go, raise-numbers}
+use Rattle.walk.specs.Code.Load.{loaded_from}
+use Rattle.walk.specs.Code.Turns.{here-first, selector-is, place_is, named-yes, named_past, named-run}
+use Rattle.walk.specs.Code.Seek.{lost_at, visit-go, visit-stay}
+use Rattle.walk.specs.Reads.{found_by}
+use Rattle.walk.specs.Walk.{stayed}
 use Rattle.seek_walk.proofs.seek_from.Goals as goal
-
-pub walk-init : goal.walk-init
-walk-init c = record { same = refl }
-
-pub load-places-requires : goal.load-places-requires
-load-places-requires c =
-    let if1 = c.if-n-g in
-    let walking = c.requires.walking in
-    (omega (arith, within walking if1.false c.segment_at-at.ensures), walking.few)
-
-pub overflow_add-first : goal.overflow_add-first
-overflow_add-first c =
-    let segment-at = c.segment_at-at in
-    let if1 = c.if-n-g in
-    let walking = c.requires.walking in
-    omega (arith, within walking if1.false segment-at.ensures)
-
-pub overflow_add-first-in-walk : goal.overflow_add-first-in-walk
-overflow_add-first-in-walk c =
-    let segment-at = c.segment_at-at in
-    let if1 = c.if-n-g in
-    let walking = c.requires.walking in
-    omega (arith, within walking if1.false segment-at.ensures, c.usize_of_u8.ensures)
+use Rattle.seek_walk.proofs.seek_from.Goals.{then-index-r-via-then-index-r, then-index-r-via-else-index-r+then-tray-i}
 
 pub loop-s-init : goal.loop-s-init
 loop-s-init c =
-    let load = c.load-places in
-    let segment-at = c.segment_at-at in
-    let if1 = c.if-n-g in
-    let walking = c.requires.walking in
-    here-first walking if1.false segment-at.ensures load.ensures
-
-pub overflow_add-v : goal.overflow_add-v
-overflow_add-v c =
-    let back = c in
-    let usize-of-u8 = back.usize_of_u8 in
-    let segment-at = back.segment_at-at in
-    let if1 = back.if-n-g in
-    let walking = back.requires.walking in
-    omega (arith, within walking if1.false segment-at.ensures, usize-of-u8.ensures, c.usize_of_u8-in-loop-s.ensures)
-
-pub bounds-x-first : goal.bounds-x-first
-bounds-x-first c =
-    let usize-of-u82 = c.usize_of_u8-in-loop-s in
-    let back = c in
-    let usize-of-u8 = back.usize_of_u8 in
-    let segment-at = back.segment_at-at in
-    let if1 = back.if-n-g in
-    let walking = back.requires.walking in
-    omega (arith, within walking if1.false segment-at.ensures, usize-of-u8.ensures, usize-of-u82.ensures)
+    here-first c.args.indexed.now.walking c.loop-g-test.true refl (c.load.ensures ∙ ap (loaded_from _ _) c.segment_at.ensures.value)
 
 pub loop-s-preserved-then-v-eq63 : goal.loop-s-preserved-then-v-eq63
 loop-s-preserved-then-v-eq63 c =
-    let back = c in
-    let usize-of-u82 = back.usize_of_u8-in-loop-s in
-    let loop-test = back.loop-s-test in
-    let loop = back.loop-s in
-    let usize-of-u8 = back.usize_of_u8 in
-    let segment-at = back.segment_at-at in
-    let walking = back.requires.walking in
+    let i = c.loop-s.invariant in
     record {
-      room = loop.invariant.room;
-      on = selectors-pass
-          loop.invariant.on
-          loop-test.true
-          (selector-is walking _ _ segment-at.ensures (omega (arith, usize-of-u8.ensures)) usize-of-u82.ensures)
-          c.if-v-eq63.true;
+      room = i.room;
+      on = selectors-pass i.on c.loop-s-test.true (selector-is c.args.indexed.now.walking _ _ refl c.selectors_at-first.ensures.value c.from.ensures) c.if-v-eq63.true;
     }
-
-pub bounds-places-i : goal.bounds-places-i
-bounds-places-i c =
-    let loop = c.loop-s in
-    let walking =
-    c.requires.walking in
-    omega (arith, loop.invariant.room, walking.few, c.usize_of_u8-i.ensures)
-
-pub bounds-counts-i : goal.bounds-counts-i
-bounds-counts-i c =
-    let usize-of-u83 = c.usize_of_u8-i in
-    let walking =
-    c.requires.walking in
-    omega (arith, walking.room, walking.few, usize-of-u83.ensures)
-
-pub stays-requires : goal.stays-requires
-stays-requires c =
-    let back = c in
-    let usize-of-u83 = back.usize_of_u8-i in
-    let if3 = back.if-r-h in
-    let back = back in
-    let loop = back.loop-s in
-    let back = back in
-    let walking = back.requires.walking in
-    let starts = back.requires.starts in record {
-      starts = starts;
-      v_bound = (
-        stays-run walking _ loop.places if3.true usize-of-u83.ensures,
-        stays-place walking _ loop.places if3.true usize-of-u83.ensures c.if-q-counts.true,
-      );
-    }
-
-pub found-requires : goal.found-requires
-found-requires c =
-    let stays = c.stays in
-    let back = c in
-    let usize-of-u83 = back.usize_of_u8-i in
-    let if3 = back.if-r-h in
-    let back = back in
-    let loop = back.loop-s in
-    let walk = back.walk in
-    let walking = back.requires.walking in
-    stay-low walking _ loop.places if3.true usize-of-u83.ensures _ walk.g loop.s stays.ensures c.if-stays.true
-
-pub overflow_add-places : goal.overflow_add-places
-overflow_add-places c =
-    let if4 = c.if-q-counts in
-    let shared-slice-known6 = c.shared_slice_known-then-r-h-1 in
-    let usize-of-u83 = c.usize_of_u8-i in
-    omega (arith, shared-slice-known6.given usize-of-u83.result, if4.true)
-
-pub bounds-places-i-then-q-counts : goal.bounds-places-i-then-q-counts
-bounds-places-i-then-q-counts c =
-    let back = c in
-    let usize-of-u83 = back.usize_of_u8-i in
-    let loop = back.loop-s in
-    let walking =
-    back.requires.walking in
-    omega (arith, loop.invariant.room, walking.few, usize-of-u83.ensures)
 
 pub loop-s-preserved : goal.loop-s-preserved
 loop-s-preserved c =
-    let back = c in
-    let stays = back.stays in
-    let back = back in
-    let if4 = back.if-q-counts in
-    let back = back in
-    let usize-of-u83 = back.usize_of_u8-i in
-    let if3 = back.if-r-h in
-    let back = back in
-    let if2 = back.if-v-eq63 in
-    let back = back in
-    let usize-of-u82 = back.usize_of_u8-in-loop-s in
-    let loop-test = back.loop-s-test in
-    let loop = back.loop-s in
-    let usize-of-u8 = back.usize_of_u8 in
-    let segment-at = back.segment_at-at in
-    let walking = back.requires.walking in
+    let w = c.args.indexed.now.walking in
+    let i = c.loop-s.invariant in
+    let ps = c.loop-s.places in
     record {
-      room = simp length-set loop.invariant.room;
+      room = simp length-set i.room;
       on = selectors-go
-          loop.invariant.on
-          loop-test.true
-          (selector-is walking _ _ segment-at.ensures (omega (arith, usize-of-u8.ensures)) usize-of-u82.ensures)
-          if2.false
-          (named-yes walking _ _ if3.true usize-of-u83.ensures if4.true)
-          (visit-go walking _ loop.places if3.true usize-of-u83.ensures _ _ _ stays.ensures c.if-stays.false)
-          (raise-numbers loop.places usize-of-u83.ensures);
+          i.on
+          c.loop-s-test.true
+          (selector-is w _ _ refl c.selectors_at-first.ensures.value c.from.ensures)
+          c.if-v-eq63.false
+          (named-yes w _ _ c.if-index-r.false c.from-i.ensures c.if-tray-i.false)
+          (visit-go w _ ps c.if-index-r.false c.from-i.ensures _ _ _ c.stays.ensures c.if-stays.false)
+          (raise-numbers ps c.from-i.ensures);
     }
 
-pub walk-preserved : goal.walk-preserved
-walk-preserved c =
-    let loop = c.loop-s in
-    let walk = c.walk in
-    record { same = (selectors-end loop.invariant.on c.loop-s-test.false).same ∙ walk.invariant.same }
+pub loop-g-preserved : goal.loop-g-preserved
+loop-g-preserved c = record { same = (selectors-end c.loop-s.invariant.on c.loop-s-test.false).same ∙ c.loop-g.invariant.same }
 
-pub returns-then-n-g : goal.returns-then-n-g
-returns-then-n-g c =
-    let if1 = c.if-n-g in
-    let walk = c.walk in
-    c.at_end.ensures ∙ segments-end walk.invariant if1.true
+pub returns-then-index-r : goal.returns-then-index-r
+unfolding sought_of
+returns-then-index-r c =
+    let w = c.args.indexed.now.walking in
+    ap (lost_at _) c.from-then-index-r.ensures
+    ∙ selectors-lost
+    c.loop-s.invariant.on
+    c.loop-s-test.true
+    (selector-is w _ _ refl c.selectors_at-first.ensures.value c.from.ensures)
+    c.if-v-eq63.false
+    (elim c.then-index-r.branch [
+      | then-index-r-via-then-index-r b ↦ named-run w _ c.loop-s.places b.if-index-r.true
+      | then-index-r-via-else-index-r+then-tray-i b ↦ named_past w _ c.loop-s.places b.if-index-r.false c.from-i.ensures b.if-tray-i.true
+    ])
+    ∙ c.loop-g.invariant.same
+
+-- a record found by a selector of the walk
+sighted : {t x : List ℕ} {h d n : ℕ} {counts : List ℕ} → Walking t x h d n counts → (g s v : ℕ) {i : ℕ} (places : List Place) → v % 64 < h → i ≡ v % 64
+    → sought_of (Ok (Some (record {
+      run = record { 0 = v % 64 };
+      place = get_or places i (placed 0);
+      cursor = record { segment = record { 0 = g }; selector = s; places = places };
+    })))
+    ≡ stayed (found_by v (record { segment = g; selector = s; places = numbers places }))
+unfolding sought_of spot_of found_by
+sighted w g s v places below e =
+    ap (λ (p : ℕ). stayed (record { run = v % 64; place = p; spot = record { segment = g; selector = s; places = numbers places } })) (place_is w v places below e)
 
 pub returns-then-stays : goal.returns-then-stays
 returns-then-stays c =
-    let back = c in
-    let if5 = back.if-stays in
-    let back = back in
-    let stays = back.stays in
-    let back = back in
-    let if4 = back.if-q-counts in
-    let back = back in
-    let usize-of-u83 = back.usize_of_u8-i in
-    let back = back in
-    let if3 = back.if-r-h in
-    let if2 = back.if-v-eq63 in
-    let back = back in
-    let usize-of-u82 = back.usize_of_u8-in-loop-s in
-    let loop-test = back.loop-s-test in
-    let back = back in
-    let loop = back.loop-s in
-    let usize-of-u8 = back.usize_of_u8 in
-    let segment-at = back.segment_at-at in
-    let walk = back.walk in
-    let walking = back.requires.walking in
-    c.found.ensures
-    ∙ sight-is walking _ loop.places if3.true usize-of-u83.ensures _ _ _ stays.ensures if5.true
+    let w = c.args.indexed.now.walking in
+    let ps = c.loop-s.places in
+    sighted w _ _ _ ps c.if-index-r.false c.from-i.ensures
     ∙ selectors-stay
-    loop.invariant.on
-    loop-test.true
-    (selector-is walking _ _ segment-at.ensures (omega (arith, usize-of-u8.ensures)) usize-of-u82.ensures)
-    if2.false
-    (named-yes walking _ _ if3.true usize-of-u83.ensures if4.true)
-    (visit-stay walking _ loop.places if3.true usize-of-u83.ensures _ _ _ stays.ensures if5.true)
-    ∙ walk.invariant.same
+    c.loop-s.invariant.on
+    c.loop-s-test.true
+    (selector-is w _ _ refl c.selectors_at-first.ensures.value c.from.ensures)
+    c.if-v-eq63.false
+    (named-yes w _ _ c.if-index-r.false c.from-i.ensures c.if-tray-i.false)
+    (visit-stay w _ ps c.if-index-r.false c.from-i.ensures _ _ _ c.stays.ensures c.if-stays.true)
+    ∙ c.loop-g.invariant.same
 
-pub returns-else-q-counts : goal.returns-else-q-counts
-returns-else-q-counts c =
-    let back = c in
-    let if4 = back.if-q-counts in
-    let back = back in
-    let usize-of-u83 = back.usize_of_u8-i in
-    let back = back in
-    let if3 = back.if-r-h in
-    let if2 = back.if-v-eq63 in
-    let back = back in
-    let usize-of-u82 = back.usize_of_u8-in-loop-s in
-    let loop-test = back.loop-s-test in
-    let back = back in
-    let loop = back.loop-s in
-    let usize-of-u8 = back.usize_of_u8 in
-    let segment-at = back.segment_at-at in
-    let walk = back.walk in
-    let walking = back.requires.walking in
-    c.lost_at.ensures
-    ∙ selectors-lost
-    loop.invariant.on
-    loop-test.true
-    (selector-is walking _ _ segment-at.ensures (omega (arith, usize-of-u8.ensures)) usize-of-u82.ensures)
-    if2.false
-    (named_past walking _ _ if3.true usize-of-u83.ensures if4.false)
-    ∙ walk.invariant.same
-
-pub returns-else-r-h : goal.returns-else-r-h
-returns-else-r-h c =
-    let back = c in
-    let if3 = back.if-r-h in
-    let if2 = back.if-v-eq63 in
-    let back = back in
-    let usize-of-u82 = back.usize_of_u8-in-loop-s in
-    let loop-test = back.loop-s-test in
-    let back = back in
-    let loop = back.loop-s in
-    let usize-of-u8 = back.usize_of_u8 in
-    let segment-at = back.segment_at-at in
-    let walk = back.walk in
-    let walking = back.requires.walking in
-    c.lost_at-in-loop-s.ensures
-    ∙ selectors-lost
-    loop.invariant.on
-    loop-test.true
-    (selector-is walking _ _ segment-at.ensures (omega (arith, usize-of-u8.ensures)) usize-of-u82.ensures)
-    if2.false
-    (named-run walking _ loop.places if3.false)
-    ∙ walk.invariant.same
+pub returns-after-loop-g : goal.returns-after-loop-g
+unfolding sought_of
+returns-after-loop-g c = segments-end c.loop-g.invariant c.loop-g-test.false

@@ -1,17 +1,11 @@
--- `seek_walk::stays` meets its contract: only an unmarked selector has its key read.
+-- Only an unmarked selector has its key read.
+use Rattle.std.proofs.Common.{◌∙◌, ap, le-ltb}
+use Rattle.tray.specs.Run.{record_at}
 use Rattle.walk.specs.Code.Seek.{stays-below, stays-marked}
 use Rattle.seek_walk.proofs.stays.Goals as goal
 
-pub head_of-e-requires : goal.head_of-e-requires
-head_of-e-requires c =
-    let pre = c.requires in
-    let starts = c.requires.starts in record { starts = starts; r_bound = pre.v_bound.0 c.if-v-lt64.true; p_bound = pre.v_bound.1 c.if-v-lt64.true }
-
 pub returns-then-v-lt64 : goal.returns-then-v-lt64
-returns-then-v-lt64 c =
-    let head_of = c.head_of-e in
-    let if1 = c.if-v-lt64 in
-    stays-below _ _ _ _ if1.true head_of.ensures.key
+returns-then-v-lt64 c = stays-below _ _ _ _ c.if-v-lt64.true (c.key_at.ensures ∙ ap (λ run. (record_at run c.args.p.0).key) c.run.ensures.bytes)
 
-pub returns : goal.returns
-returns c = stays-marked _ _ _ _ c.if-v-lt64.false
+pub returns-else-v-lt64 : goal.returns-else-v-lt64
+returns-else-v-lt64 c = le-ltb _ _ c.if-v-lt64.false ∙ stays-marked _ _ _ _ c.if-v-lt64.false

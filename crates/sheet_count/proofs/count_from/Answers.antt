@@ -1,261 +1,76 @@
--- `sheet_count::count_from` meets its contract. Invariant: sheet's walk stands here with so many records, of which the last are remembered.
--- Measure: the segments left.
-use mathlib.Core.Path.{◌≡◌, refl, sym, ap, ◌∙◌}
-use lib.ListN.{length}
-use Rattle.walk.specs.Reads.{sheet_visit}
-use Rattle.walk.specs.Code.{numbers-back, length-numbers, length-places, places-room}
-use Rattle.walk.specs.Code.Turns.{within}
+-- Invariant: sheet's walk enters segment g with so many records, of which the last are remembered.
+use Rattle.std.specs.Prelude.{◌≤◌}
+use Rattle.std.proofs.Common.{refl, ◌∙◌, arith, []}
+use Rattle.walk.specs.Code.{spot_of}
+use Rattle.list.specs.Gathers.{gathers-all, gathers-lost}
 use Rattle.list.specs.Stops.Laws.{gathered-within}
-use Rattle.list.specs.Steps.{onward-same, onward-from}
-use Rattle.sheet_count.specs.Count.{counted_as}
-use Rattle.sheet_count.specs.Count.Code.{counting-first, counting-fits, round, counting-on, counting-enter, counted, counted-few, counted-past, counted-lost, counted-end}
-use native.Mathlib.Omega.{arith}
-use Rattle.std.proofs.Common.{rules}
+use Rattle.list.specs.Steps.{entering-first, here-entered, here-left, here-over}
+use Rattle.sheet_count.specs.Count.Code.{remembers-none, remembers-fits, remembers-more, within-part, counted-past, counted-lost, counted-on, counted-few, lists-bound, lists-end, lost-counts}
+use Rattle.std.proofs.lemmas.Result.{err_from_is_err_and}
 use Rattle.sheet_count.proofs.count_from.Goals as goal
 
-pub loop-held-init : goal.loop-held-init
-loop-held-init c =
-    let back = c in
-    let args = back.args in
-    let pre = back.requires in
-    let r : length args.from.places ≡ 63 = search rules in
-    counting-first _ _ _ _ _
-    pre.segment_lt_n.0
-    pre.segment_lt_n.1
-    (length-places _ ∙ ap length c.place_numbers-places.ensures ∙ length-numbers args.from.places ∙ r)
-
-pub overflow_sub-size : goal.overflow_sub-size
-overflow_sub-size c =
-    let loop = c.loop-held in
-    let usize-of-u8 = c.usize_of_u8-size in
-    omega (arith, loop.invariant.here.on.high, usize-of-u8.ensures, c.usize_of_u8-at.ensures)
+pub loop-g-init : goal.loop-g-init
+unfolding spot_of
+loop-g-init c =
+    record { records = []; kept = refl; entering = entering-first _ _ _ _ _ _ _ refl; few = omega arith; low = omega arith; remembered = remembers-none _ _ }
 
 pub slots_kept-before-requires : goal.slots_kept-before-requires
-slots_kept-before-requires c =
-    let loop = c.loop-held in
-    let usize-of-u8 = c.usize_of_u8-size in
-    let pre = c.requires in
-    (omega (arith, loop.invariant.fits, loop.invariant.kept), omega (arith, pre.segment_lt_n.2, usize-of-u8.ensures))
+slots_kept-before-requires c = (omega (arith, c.loop-g.invariant.remembered.fits), omega (arith, c.loop-g.invariant.kept))
 
-pub slice_bounds-gather-end : goal.slice_bounds-gather-end
-slice_bounds-gather-end c =
-    let loop = c.loop-held in
-    sym (places-room _ loop.invariant.here.room)
+pub first_past-fresh-requires : goal.first_past-fresh-requires
+first_past-fresh-requires c =
+    let m = remembers-fits c.loop-g.invariant.remembered refl (omega (arith, c.loop-g.invariant.kept)) c.slots_kept-before.ensures.value in
+    within-part _ _ _ c.gather-gathered.ensures.from.least (gathered-within c.args.listing.now.indexed.now.tray.frame.at.frame m.within c.gather-gathered.ensures.from)
 
-pub gather-m-requires : goal.gather-m-requires
-gather-m-requires c =
-    let back = c in
-    let slots_kept = back.slots_kept-before in
-    let usize-of-u82 = back.usize_of_u8-at in
-    let loop = back.loop-held in
-    let back = back in
-    let usize-of-u8 = back.usize_of_u8-size in
-    let walking = back.requires.walking in
-    let starts = back.requires.starts in record {
-      walking = walking;
-      starts = starts;
-      g_lt_n = (
-        loop.invariant.here.on.inside,
-        omega (arith, loop.invariant.here.on.high, usize-of-u82.ensures),
-        places-room _ loop.invariant.here.room,
-        omega (arith, slots_kept.ensures.more_bound, usize-of-u8.ensures, usize-of-u82.ensures, loop.invariant.here.on.high, loop.invariant.kept),
-      );
+pub shape_of-ats-then-held-k : goal.shape_of-ats-then-held-k
+shape_of-ats-then-held-k c = omega (arith, c.loop-g.invariant.kept)
+
+pub returns-then-held-k-clause-counts : goal.returns-then-held-k-clause-counts
+returns-then-held-k-clause-counts c =
+    let i = here-entered c.args.listing.now.indexed.now.walking c.loop-g.invariant.entering c.loop-g-test.true c.enter.array_long c.enter.ensures.spot c.from-at.ensures c.enter.ensures.low in
+    let m = remembers-fits c.loop-g.invariant.remembered refl (omega (arith, c.loop-g.invariant.kept)) c.slots_kept-before.ensures.value in
+    let framed = c.args.listing.now.indexed.now.tray.frame.at.frame in
+    let f = c.gather-gathered.ensures.from in
+    let past = c.first_past-fresh.ensures in
+    record {
+      records = _;
+      lists = lists-bound (counted-past i m framed refl f (omega arith) past c.if-held-k.true);
+      remembered = remembers-more i m framed refl f (omega arith) past;
     }
 
-pub first_past-held-requires : goal.first_past-held-requires
-first_past-held-requires c =
-    let back = c in
-    let gather = back.gather-m in
-    let gather-ats-kept = back.gather-m.auto.ats in
-    let back = back in
-    let slots_kept = back.slots_kept-before in
-    let loop = back.loop-held in
-    let back = back in
-    let usize-of-u8 = back.usize_of_u8-size in
-    let pre = back.requires in
-    let starts = back.requires.starts in record {
-      within = gathered-within
-          starts.frame
-          (counting-fits loop.invariant (sym loop.invariant.kept) (omega (arith, pre.segment_lt_n.2, usize-of-u8.ensures)) slots_kept.ensures.value).within
-          gather.ensures;
-      from_le_to = (
-        gather.ensures.least,
-        omega (arith, gather.ensures.few, gather.ensures.high, slots_kept.ensures.more_bound, usize-of-u8.ensures, loop.invariant.kept, gather-ats-kept),
-      );
+pub returns-in_err-gathered-clause-counts : goal.returns-in_err-gathered-clause-counts
+returns-in_err-gathered-clause-counts c =
+    let i = here-entered c.args.listing.now.indexed.now.walking c.loop-g.invariant.entering c.loop-g-test.true c.enter.array_long c.enter.ensures.spot c.from-at.ensures c.enter.ensures.low in
+    let m = remembers-fits c.loop-g.invariant.remembered refl (omega (arith, c.loop-g.invariant.kept)) c.slots_kept-before.ensures.value in
+    let framed = c.args.listing.now.indexed.now.tray.frame.at.frame in
+    let f = gathers-lost c.gather-gathered.ensures c.in_err-gathered.was in
+    let past = c.first_past-fresh.ensures in
+    let p = err_from_is_err_and c.from_residual.result c.from_residual.ensures.1 in
+    lost-counts _ _ p.1 p.2 (counted-lost i m framed refl f.0 (omega arith) past c.if-held-k.false f.1.0 refl f.1.1)
+
+pub loop-g-preserved : goal.loop-g-preserved
+unfolding spot_of
+loop-g-preserved c =
+    let i = here-entered c.args.listing.now.indexed.now.walking c.loop-g.invariant.entering c.loop-g-test.true c.enter.array_long c.enter.ensures.spot c.from-at.ensures c.enter.ensures.low in
+    let m = remembers-fits c.loop-g.invariant.remembered refl (omega (arith, c.loop-g.invariant.kept)) c.slots_kept-before.ensures.value in
+    let framed = c.args.listing.now.indexed.now.tray.frame.at.frame in
+    let f = gathers-all c.gather-gathered.ensures c.in_ok-gathered.was in
+    let past = c.first_past-fresh.ensures in
+    let byte : c.args.listing.now.indexed.now.index.size ≤ 255 = c.args.listing.now.indexed.now.index.frame.byte in
+    let few = counted-few i m framed refl f (omega arith) past (omega arith) c.loop-g.invariant.few in
+    record {
+      records = _;
+      kept = c.gather-gathered.auto.ats ∙ c.loop-g.invariant.kept;
+      entering = here-left c.args.listing.now.indexed.now.walking (counted-on i m framed refl f (omega arith) past c.if-held-k.false (omega arith)) (omega arith) c.loop-g.invariant.entering.since;
+      few = few;
+      low = omega arith;
+      remembered = remembers-more i m framed refl f (omega arith) past;
     }
 
-pub overflow_sub-count : goal.overflow_sub-count
-overflow_sub-count c = c.first_past-held.ensures.least
+pub returns-clause-counts : goal.returns-clause-counts
+returns-clause-counts c =
+    let i = c.loop-g.invariant in
+    record { records = i.records; lists = lists-end (here-over c.args.listing.now.indexed.now.walking i.entering c.loop-g-test.false); remembered = i.remembered }
 
-pub overflow_cast-result : goal.overflow_cast-result
-overflow_cast-result c =
-    let back = c in
-    let usize-of-u8 = back.usize_of_u8-size in
-    let fits = back.ranges in
-    omega (arith, fits.d, fits.n, c.if-stop-size.true, usize-of-u8.ensures)
-
-pub overflow_add-g : goal.overflow_add-g
-overflow_add-g c =
-    let back = c in
-    let loop = back.loop-held in
-    let fits = back.ranges in
-    omega (arith, loop.invariant.here.on.inside, fits.n)
-
-pub reload-requires : goal.reload-requires
-reload-requires c =
-    let segment-at = c.segment_at in
-    let if3 = c.if-n-g in
-    let back = c in
-    let gather-places-kept = back.gather-m.auto.places in
-    let loop = back.loop-held in
-    let walking = back.requires.walking in
-    (omega (arith, within walking if3.false segment-at.ensures), walking.few, gather-places-kept ∙ places-room _ loop.invariant.here.room)
-
-pub returns-then-held-k : goal.returns-then-held-k
-unfolding counted_as
-returns-then-held-k c =
-    let back = c in
-    let first_past = back.first_past-held in
-    let back = back in
-    let gather = back.gather-m in
-    let gather-ats-kept = back.gather-m.auto.ats in
-    let back = back in
-    let slots_kept = back.slots_kept-before in
-    let back = back in
-    let usize-of-u82 = back.usize_of_u8-at in
-    let loop = back.loop-held in
-    let back = back in
-    let place-numbers = back.place_numbers-places in
-    let back = back in
-    let usize-of-u8 = back.usize_of_u8-size in
-    let back = back in
-    let args = back.args in
-    let fits = back.ranges in
-    let pre = back.requires in
-    let walking = back.requires.walking in
-    let starts = back.requires.starts in
-    let turn =
-    (round loop.invariant starts.frame usize-of-u8.ensures usize-of-u82.ensures pre.segment_lt_n.2 (slots_kept.ensures.value, slots_kept.ensures.more_bound) gather.ensures
-    gather-ats-kept first_past.ensures) in record {
-      counts = counted turn _
-          (counted-past turn c.if-held-k.true
-          ∙ onward-same _ _ _ _ _ _ _ _ args.from.places _ place-numbers.ensures
-          ∙ onward-from walking (sheet_visit _ _) args.from _ refl pre.segment_lt_n.0)
-          refl refl;
-      count_bound = counted-few turn (omega (arith, fits.d, fits.n));
-    }
-
-pub returns-then-stop-size : goal.returns-then-stop-size
-unfolding counted_as
-returns-then-stop-size c =
-    let back = c in
-    let if1 = back.if-held-k in
-    let back = back in
-    let first_past = back.first_past-held in
-    let back = back in
-    let gather = back.gather-m in
-    let gather-ats-kept = back.gather-m.auto.ats in
-    let back = back in
-    let slots_kept = back.slots_kept-before in
-    let back = back in
-    let usize-of-u82 = back.usize_of_u8-at in
-    let loop = back.loop-held in
-    let back = back in
-    let place-numbers = back.place_numbers-places in
-    let back = back in
-    let usize-of-u8 = back.usize_of_u8-size in
-    let back = back in
-    let args = back.args in
-    let fits = back.ranges in
-    let pre = back.requires in
-    let walking = back.requires.walking in
-    let starts = back.requires.starts in
-    let turn =
-    (round loop.invariant starts.frame usize-of-u8.ensures usize-of-u82.ensures pre.segment_lt_n.2 (slots_kept.ensures.value, slots_kept.ensures.more_bound) gather.ensures
-    gather-ats-kept first_past.ensures) in record {
-      counts = counted turn _
-          (counted-lost turn if1.false (omega (arith, c.if-stop-size.true, usize-of-u8.ensures))
-          ∙ onward-same _ _ _ _ _ _ _ _ args.from.places _ place-numbers.ensures
-          ∙ onward-from walking (sheet_visit _ _) args.from _ refl pre.segment_lt_n.0)
-          refl refl;
-      count_bound = counted-few turn (omega (arith, fits.d, fits.n));
-    }
-
-pub returns-then-n-g : goal.returns-then-n-g
-unfolding counted_as
-returns-then-n-g c =
-    let back = c in
-    let if2 = back.if-stop-size in
-    let back = back in
-    let if1 = back.if-held-k in
-    let back = back in
-    let first_past = back.first_past-held in
-    let back = back in
-    let gather = back.gather-m in
-    let gather-ats-kept = back.gather-m.auto.ats in
-    let back = back in
-    let slots_kept = back.slots_kept-before in
-    let back = back in
-    let usize-of-u82 = back.usize_of_u8-at in
-    let loop = back.loop-held in
-    let back = back in
-    let place-numbers = back.place_numbers-places in
-    let back = back in
-    let usize-of-u8 = back.usize_of_u8-size in
-    let back = back in
-    let args = back.args in
-    let fits = back.ranges in
-    let pre = back.requires in
-    let walking = back.requires.walking in
-    let starts = back.requires.starts in
-    let turn =
-    (round loop.invariant starts.frame usize-of-u8.ensures usize-of-u82.ensures pre.segment_lt_n.2 (slots_kept.ensures.value, slots_kept.ensures.more_bound) gather.ensures
-    gather-ats-kept first_past.ensures) in record {
-      counts = counted turn _
-          (counted-end turn if1.false (omega (arith, if2.false, usize-of-u8.ensures)) c.if-n-g.true
-          ∙ onward-same _ _ _ _ _ _ _ _ args.from.places _ place-numbers.ensures
-          ∙ onward-from walking (sheet_visit _ _) args.from _ refl pre.segment_lt_n.0)
-          refl refl;
-      count_bound = counted-few turn (omega (arith, fits.d, fits.n));
-    }
-
-pub loop-held-preserved : goal.loop-held-preserved
-loop-held-preserved c =
-    let back = c in
-    let reload = back.reload in
-    let back = back in
-    let segment-at = back.segment_at in
-    let back = back in
-    let if3 = back.if-n-g in
-    let back = back in
-    let if2 = back.if-stop-size in
-    let back = back in
-    let if1 = back.if-held-k in
-    let back = back in
-    let first_past = back.first_past-held in
-    let back = back in
-    let gather = back.gather-m in
-    let gather-ats-kept = back.gather-m.auto.ats in
-    let back = back in
-    let slots_kept = back.slots_kept-before in
-    let usize-of-u82 = back.usize_of_u8-at in
-    let back = back in
-    let loop = back.loop-held in
-    let back = back in
-    let usize-of-u8 = back.usize_of_u8-size in
-    let back = back in
-    let fits = back.ranges in
-    let pre = back.requires in
-    let walking = back.requires.walking in
-    let starts = back.requires.starts in
-    let turn =
-    (round loop.invariant starts.frame usize-of-u8.ensures usize-of-u82.ensures pre.segment_lt_n.2 (slots_kept.ensures.value, slots_kept.ensures.more_bound) gather.ensures
-    gather-ats-kept first_past.ensures) in
-    counting-enter
-    (counting-on turn if1.false (omega (arith, if2.false, usize-of-u8.ensures)) refl)
-    walking
-    (omega (arith, fits.d))
-    (omega arith)
-    if3.false
-    segment-at.ensures
-    (numbers-back _ ∙ reload.ensures)
+pub returns-clause-count_bound : goal.returns-clause-count_bound
+returns-clause-count_bound c = c.loop-g.invariant.low

@@ -1,10 +1,8 @@
-use Prim.Native.Nat.{◌-◌}
-use Rattle.walk.specs.Code.{places_of}
+use Rattle.walk.specs.Code.{spot_of}
+use Rattle.list.specs.Listing.{sheet_of}
 use Rattle.sheet_count.specs.Count.Code.{Counting}
 use Rattle.sheet_count.proofs.count_from.Given as goal
 
-abbrev pub invariant-loop-held : goal.invariant-loop-held
-invariant-loop-held l = Counting l.t l.x l.high l.d l.n l.initial.g l.initial.s (places_of l.initial.places) l.initial.ats l.g l.s (places_of l.places) l.count l.held l.ats
-
-abbrev pub decreases-loop-held : goal.decreases-loop-held
-decreases-loop-held l = l.n - l.g
+abbrev pub invariant-loop-g : goal.invariant-loop-g
+invariant-loop-g l = Counting l.indexed.tray.bytes.now l.index.bytes.now l.high l.index.runs l.index.size l.index.segments (sheet_of l.listing l.high)
+    (spot_of l.listing.from.now) l.fn.ats l.g l.count l.held l.ats

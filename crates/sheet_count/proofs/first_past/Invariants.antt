@@ -1,9 +1,5 @@
-use Prim.Native.Nat.{◌-◌}
 use Rattle.sheet_count.specs.Count.Code.{Seeking}
 use Rattle.sheet_count.proofs.first_past.Given as goal
 
 abbrev pub invariant-loop-i : goal.invariant-loop-i
-invariant-loop-i l = Seeking l.t l.ats l.from l.to l.high l.i
-
-abbrev pub decreases-loop-i : goal.decreases-loop-i
-decreases-loop-i l = l.to - l.i
+invariant-loop-i l = Seeking l.t l.ats l.high l.i

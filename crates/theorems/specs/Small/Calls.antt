@@ -1,5 +1,6 @@
 -- What the library's definitions give for runs and a D: each call with all that it computes by, so that to unfold it here is to unfold them.
-use Rattle.std.specs.Prelude.{ℕ, List, [], ◌∷◌, ◌++◌, map, length, replicate}
+use Rattle.refusal.specs.declared.Refusal.{Refusal}
+use Rattle.std.specs.Prelude.{ℕ, List, [], ◌∷◌, ◌++◌, map, length, replicate, Ok, Err, Result, Some, None}
 use Rattle.number.specs.Big.{be, bytes_of, put}
 use Rattle.refusal.specs.Table.{verdict_of}
 use Rattle.refusal.specs.declared.Verdict.{Verdict}
@@ -10,36 +11,24 @@ use Rattle.theory.specs.Merge.{hidden, over, merged, fold}
 use Rattle.theory.specs.View.{spread, entries_from, view, old}
 use Rattle.theory.specs.Places.{count}
 use Rattle.theory.specs.Pack.{joined, grouped, groups, pack_on, pack}
-use Rattle.tray.specs.declared.TrayAnswer.{TrayAnswer}
-use Rattle.tray.specs.declared.TrayAnswer.TheVariants.{Records, Refused as TrayRefused}
 use Rattle.tray.specs.Frame.{run_count, count_of, records_before, start_of, run_bytes, header_fits, counts_fit, framed}
 use Rattle.tray.specs.Run.{record_from, kind_wrong, key_wrong, judge_from}
 use Rattle.tray.specs.Check.{after_run, check_runs, check_tray_answer}
 use Rattle.tray.specs.Meaning.{run_of, runs_of, record_bytes, records_bytes, counts_bytes, runs_bytes, tray_bytes, total}
-use Rattle.index.specs.declared.IndexAnswer.{IndexAnswer}
-use Rattle.index.specs.declared.IndexAnswer.TheVariants.{Segments, Refused as IndexRefused}
 use Rattle.index.specs.Layout.{size_of, segment_count, head_size, segment_at, Segment, index_framed}
 use Rattle.index.specs.Rules.{selector_of}
 use Rattle.index.specs.Scan.{marked, raise, begins, joins, offsets_hold, only_placeholders, next_in, has_next, heads_above, used_up, names, closed, following, selectors_scan, segment_scan, scan_from}
 use Rattle.index.specs.Check.{after_scan, judge_index, framed_index, after_tray, check_index_answer}
-use Rattle.build_spec.specs.declared.BuildAnswer.{BuildAnswer}
-use Rattle.build_spec.specs.declared.BuildAnswer.TheVariants.{Written, Refused as BuildRefused}
 use Rattle.build_spec.specs.Build.{cuts, anchor_of, offsets_bytes, segment_bytes, segments_bytes, index_bytes, index_size, size_fits, after_check, build_answer, build_leaves}
-use Rattle.fold_spec.specs.declared.FoldAnswer.{FoldAnswer}
-use Rattle.fold_spec.specs.declared.FoldAnswer.TheVariants.{Written as FoldWritten, Refused as FoldRefused}
 use Rattle.fold_spec.specs.Fold.{folded_run, folded_runs, fold_bytes, fold_size, bounds_hold, after_check as after_fold, fold_answer, fold_leaves}
-use Rattle.answers.specs.declared.CursorAnswer.{CursorAnswer}
-use Rattle.answers.specs.declared.SeekAnswer.{SeekAnswer}
-use Rattle.answers.specs.declared.SeekAnswer.TheVariants.{Found as SeekFound, End as SeekEnd, Refused as SeekRefused}
-use Rattle.answers.specs.declared.ValueAnswer.{ValueAnswer}
-use Rattle.answers.specs.declared.GetAnswer.{GetAnswer}
-use Rattle.answers.specs.declared.GetAnswer.TheVariants.{Found as GetFound, Absent, Refused as GetRefused}
+use Rattle.answers.specs.declared.Stand.{Stand}
+use Rattle.answers.specs.declared.Stand.TheVariants.{Found as SeekFound, End as SeekEnd}
 use Rattle.walk.specs.Start.{probe, start}
 use Rattle.walk.specs.Walk.{loaded, named, walk_selectors, walk_segments}
 use Rattle.walk.specs.Reads.{record_by, unmarked, end_spot, found_by, seek_visit, seek, got_from, get}
 use Rattle.answers.specs.Quick.{cursor_of, in_frames}
 use Rattle.answers.specs.Seek.{seek_told, seek_framed, seek_answer}
-use Rattle.answers.specs.Get.{got_told, get_framed, get_answer}
+use Rattle.answers.specs.Get.{Value, got_told, get_framed, get_answer}
 use Rattle.theorems.specs.Small.Rows.{accepted}
 
 -- what a call gives: its answer as number and figure, and what it leaves in its output, if it has one
@@ -64,52 +53,34 @@ unfolding joined bytes_of
 bytes_of_index h d ss = (h ∷ d ∷ 0 ∷ 0 ∷ []) ++ (bytes_of 4 (length ss) ++ joined (map bytes_of_segment ss))
 
 -- answers as number and figure
-abbrev pub tray_verdict : TrayAnswer → Verdict
-tray_verdict (Records n) = accepted n
-tray_verdict (TrayRefused r) = verdict_of r
-
-abbrev pub index_verdict : IndexAnswer → Verdict
-index_verdict (Segments n) = accepted n
-index_verdict (IndexRefused r) = verdict_of r
-
-abbrev pub build_verdict : BuildAnswer → Verdict
-build_verdict (Written n) = accepted n
-build_verdict (BuildRefused r) = verdict_of r
-
-abbrev pub fold_verdict : FoldAnswer → Verdict
-fold_verdict (FoldWritten n) = accepted n
-fold_verdict (FoldRefused r) = verdict_of r
+abbrev pub count_verdict : Result ℕ Refusal → Verdict
+count_verdict (Ok n) = accepted n
+count_verdict (Err r) = verdict_of r
 
 -- seek's answer: 1 with run and place where it found a record, 0 at the end
-abbrev pub seek_given : CursorAnswer → Given
-seek_given r = told r.answer
-  where
-    told : SeekAnswer → Given
-    told (SeekFound run place) = record { answer = accepted 1; output = run.0 ∷ place.0 ∷ [] }
-    told SeekEnd = gives (accepted 0)
-    told (SeekRefused r) = gives (verdict_of r)
+abbrev pub seek_given : Result Stand Refusal → Given
+seek_given (Ok (SeekFound run place c)) = record { answer = accepted 1; output = run.0 ∷ place.0 ∷ [] }
+seek_given (Ok (SeekEnd c)) = gives (accepted 0)
+seek_given (Err r) = gives (verdict_of r)
 
 -- get's answer: 1 with the value where it found one, 0 where it did not
-abbrev pub get_given : ValueAnswer → Given
-get_given r = told r.answer
-  where
-    told : GetAnswer → Given
-    told GetFound = record { answer = accepted 1; output = r.value }
-    told Absent = gives (accepted 0)
-    told (GetRefused r) = gives (verdict_of r)
+abbrev pub get_given : Value → Given
+get_given (Ok (Some v)) = record { answer = accepted 1; output = v }
+get_given (Ok None) = gives (accepted 0)
+get_given (Err r) = gives (verdict_of r)
 
 -- check tray
 unfoldable pub checks : List (List Record) → Given
 unfolding tray_bytes counts_bytes runs_bytes records_bytes record_bytes bytes_of
     check_tray_answer check_runs after_run judge_from kind_wrong key_wrong record_from framed header_fits counts_fit run_count count_of records_before start_of run_bytes be
-checks runs = gives (tray_verdict (check_tray_answer (tray_bytes runs)))
+checks runs = gives (count_verdict (check_tray_answer (tray_bytes runs)))
 
 -- check index, for an index that is given by its segments
 unfoldable pub judged : List (List Record) → ℕ → List Segment → Given
 unfolding checks bytes_of_index
     check_index_answer after_tray framed_index judge_index after_scan scan_from segment_scan selectors_scan following closed names used_up heads_above has_next next_in
     only_placeholders offsets_hold joins begins raise marked index_framed segment_at head_size segment_count size_of
-judged runs d ss = gives (index_verdict (check_index_answer (tray_bytes runs) (bytes_of_index (length runs) d ss)))
+judged runs d ss = gives (count_verdict (check_index_answer (tray_bytes runs) (bytes_of_index (length runs) d ss)))
 
 -- build
 unfoldable pub built : List (List Record) → ℕ → Given
@@ -118,7 +89,7 @@ unfolding checks
     runs_of run_of listed joined count pack pack_on groups grouped view entries_from spread insert_all insert old hidden any
 built runs d =
     let a = build_answer (tray_bytes runs) d (length room) in
-    record { answer = build_verdict a; output = build_leaves (tray_bytes runs) d room a }
+    record { answer = count_verdict a; output = build_leaves (tray_bytes runs) d room a }
 
 -- seek and get of a key, through an index that is given by its segments
 unfoldable pub sought : List (List Record) → ℕ → List Segment → ℕ → Given
@@ -137,4 +108,4 @@ unfolding checks
     runs_of run_of listed
 folded runs a b =
     let r = fold_answer (tray_bytes runs) a b (length room) in
-    record { answer = fold_verdict r; output = fold_leaves (tray_bytes runs) a b room r }
+    record { answer = count_verdict r; output = fold_leaves (tray_bytes runs) a b room r }

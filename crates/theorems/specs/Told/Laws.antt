@@ -1,9 +1,9 @@
 -- What a number says of the answer that goes with it: 0 is an answer, any other a refusal.
 --     refused-above, not-zero            a refusal's number is above 0
---     tray-zero, index-zero, build-zero, sheet-zero, fold-zero     the answer that goes with 0
---     build-refused, sheet-refused, fold-refused, ..               a refusal for any other number
---     get-cases, seek-cases, page-cases                            the answer that goes with a number and figure
-use Rattle.std.specs.Prelude.{◌≡◌, refl, ℕ, ◌<◌}
+--     count-zero                         the answer that goes with 0
+--     count-above, get-above, seek-above, page-above     a refusal for any other number
+--     seek_found, seek-end, page-more, page-end          the answer that goes with a number and figure
+use Rattle.std.specs.Prelude.{◌≡◌, refl, ℕ, ◌<◌, Ok, Err, Result, Some, None}
 use Rattle.std.proofs.Common.{sym, ap, arith}
 use Rattle.refusal.specs.declared.Refusal.{Refusal}
 use Rattle.refusal.specs.declared.Refusal.TheVariants.{TrayFrame, KeyOrder, RecordKind, IndexFrame, Segment, SegmentSize, Room, Bounds, PrefixEnd, Lost, Cursor, RunLength}
@@ -11,23 +11,13 @@ use Rattle.refusal.specs.declared.Verdict.{Verdict}
 use Rattle.refusal.specs.Table.{told, verdict_of}
 use Rattle.tray.specs.declared.RunNo.{RunNo}
 use Rattle.tray.specs.declared.Place.{Place}
-use Rattle.tray.specs.declared.TrayAnswer.{TrayAnswer}
-use Rattle.tray.specs.declared.TrayAnswer.TheVariants.{Records, Refused as TrayRefused}
-use Rattle.index.specs.declared.IndexAnswer.{IndexAnswer}
-use Rattle.index.specs.declared.IndexAnswer.TheVariants.{Segments, Refused as IndexRefused}
-use Rattle.build_spec.specs.declared.BuildAnswer.{BuildAnswer}
-use Rattle.build_spec.specs.declared.BuildAnswer.TheVariants.{Written as BuildWritten, Refused as BuildRefused}
-use Rattle.fold_spec.specs.declared.FoldAnswer.{FoldAnswer}
-use Rattle.fold_spec.specs.declared.FoldAnswer.TheVariants.{Written as FoldWritten, Refused as FoldRefused}
-use Rattle.answers.specs.declared.GetAnswer.{GetAnswer}
-use Rattle.answers.specs.declared.GetAnswer.TheVariants.{Found as GetFound, Absent, Refused as GetRefused}
-use Rattle.answers.specs.declared.SeekAnswer.{SeekAnswer}
-use Rattle.answers.specs.declared.SeekAnswer.TheVariants.{Found, End, Refused as SeekRefused}
-use Rattle.answers.specs.declared.PageAnswer.{PageAnswer}
-use Rattle.answers.specs.declared.PageAnswer.TheVariants.{More, End as PageEnd, Refused as PageRefused}
-use Rattle.answers.specs.declared.SheetAnswer.{SheetAnswer}
-use Rattle.answers.specs.declared.SheetAnswer.TheVariants.{Listed, Refused as SheetRefused}
-use Rattle.theorems.specs.Told.{tray_told, index_told, build_told, get_told, seek_told, page_told, sheet_told, fold_told}
+use Rattle.walk.specs.declared.cursor.Cursor.{Cursor as Spotted}
+use Rattle.answers.specs.declared.Stand.{Stand}
+use Rattle.answers.specs.declared.Stand.TheVariants.{Found, End}
+use Rattle.answers.specs.declared.Rest.{Rest}
+use Rattle.answers.specs.declared.Rest.TheVariants.{More, End as RestEnd}
+use Rattle.answers.specs.Get.{Value}
+use Rattle.theorems.specs.Told.{count_told, get_told, seek_told, page_told}
 
 -- a refusal's number is above 0
 pub refused-above : (r : Refusal) → 0 < (verdict_of r).number
@@ -58,85 +48,55 @@ not-above {n = n} l e = let z : n ≡ 0 = ap (λ (v : Verdict). v.number) e in a
 figure-is : {n f m g : ℕ} → told n f ≡ told m g → f ≡ g
 figure-is e = ap (λ (v : Verdict). v.figure) e
 
-pub tray-zero : (a : TrayAnswer) {n : ℕ} → told 0 n ≡ tray_told a → a ≡ Records n
-unfolding tray_told
-tray-zero (Records m) e = ap Records (sym (figure-is e))
-tray-zero (TrayRefused r) e = not-zero r e
+pub count-zero : (a : Result ℕ Refusal) {n : ℕ} → told 0 n ≡ count_told a → a ≡ Ok n
+unfolding count_told
+count-zero (Ok m) e = ap Ok (sym (figure-is e))
+count-zero (Err r) e = not-zero r e
 
-pub index-zero : (a : IndexAnswer) {n : ℕ} → told 0 n ≡ index_told a → a ≡ Segments n
-unfolding index_told
-index-zero (Segments m) e = ap Segments (sym (figure-is e))
-index-zero (IndexRefused r) e = not-zero r e
+pub count-above : (a : Result ℕ Refusal) {n f : ℕ} → told n f ≡ count_told a → 0 < n → (r : Refusal) × (a ≡ Err r)
+unfolding count_told
+count-above (Ok m) e l = not-above l e
+count-above (Err r) e l = (r, refl)
 
-pub build-zero : (a : BuildAnswer) {n : ℕ} → told 0 n ≡ build_told a → a ≡ BuildWritten n
-unfolding build_told
-build-zero (BuildWritten m) e = ap BuildWritten (sym (figure-is e))
-build-zero (BuildRefused r) e = not-zero r e
-
-pub build-above : (a : BuildAnswer) {n f : ℕ} → told n f ≡ build_told a → 0 < n → (r : Refusal) × (a ≡ BuildRefused r)
-unfolding build_told
-build-above (BuildWritten m) e l = not-above l e
-build-above (BuildRefused r) e l = (r, refl)
-
-pub sheet-zero : (a : SheetAnswer) {n : ℕ} → told 0 n ≡ sheet_told a → a ≡ Listed n
-unfolding sheet_told
-sheet-zero (Listed m) e = ap Listed (sym (figure-is e))
-sheet-zero (SheetRefused r) e = not-zero r e
-
-pub sheet-above : (a : SheetAnswer) {n f : ℕ} → told n f ≡ sheet_told a → 0 < n → (r : Refusal) × (a ≡ SheetRefused r)
-unfolding sheet_told
-sheet-above (Listed m) e l = not-above l e
-sheet-above (SheetRefused r) e l = (r, refl)
-
-pub fold-zero : (a : FoldAnswer) {n : ℕ} → told 0 n ≡ fold_told a → a ≡ FoldWritten n
-unfolding fold_told
-fold-zero (FoldWritten m) e = ap FoldWritten (sym (figure-is e))
-fold-zero (FoldRefused r) e = not-zero r e
-
-pub fold-above : (a : FoldAnswer) {n f : ℕ} → told n f ≡ fold_told a → 0 < n → (r : Refusal) × (a ≡ FoldRefused r)
-unfolding fold_told
-fold-above (FoldWritten m) e l = not-above l e
-fold-above (FoldRefused r) e l = (r, refl)
-
-pub get-above : (a : GetAnswer) {n f : ℕ} → told n f ≡ get_told a → 0 < n → (r : Refusal) × (a ≡ GetRefused r)
+pub get-above : (a : Value) {n f : ℕ} → told n f ≡ get_told a → 0 < n → (r : Refusal) × (a ≡ Err r)
 unfolding get_told
-get-above GetFound e l = not-above l e
-get-above Absent e l = not-above l e
-get-above (GetRefused r) e l = (r, refl)
+get-above (Ok (Some v)) e l = not-above l e
+get-above (Ok None) e l = not-above l e
+get-above (Err r) e l = (r, refl)
 
 -- 1 is a record, and 0 is none
-pub seek_found : (a : SeekAnswer) → told 0 1 ≡ seek_told a → (run : RunNo) × (place : Place) × (a ≡ Found run place)
+pub seek_found : (a : Result Stand Refusal) → told 0 1 ≡ seek_told a → (run : RunNo) × (place : Place) × (c : Spotted) × (a ≡ Ok (Found run place c))
 unfolding seek_told
-seek_found (Found run place) e = (run, place, refl)
-seek_found End e = let z : ◌≡◌ {A = ℕ} 1 0 = figure-is e in absurd (omega arith)
-seek_found (SeekRefused r) e = not-zero r e
+seek_found (Ok (Found run place c)) e = (run, place, c, refl)
+seek_found (Ok (End c)) e = let z : ◌≡◌ {A = ℕ} 1 0 = figure-is e in absurd (omega arith)
+seek_found (Err r) e = not-zero r e
 
-pub seek-end : (a : SeekAnswer) → told 0 0 ≡ seek_told a → a ≡ End
+pub seek-end : (a : Result Stand Refusal) → told 0 0 ≡ seek_told a → (c : Spotted) × (a ≡ Ok (End c))
 unfolding seek_told
-seek-end (Found run place) e = let z : ◌≡◌ {A = ℕ} 0 1 = figure-is e in absurd (omega arith)
-seek-end End e = refl
-seek-end (SeekRefused r) e = not-zero r e
+seek-end (Ok (Found run place c)) e = let z : ◌≡◌ {A = ℕ} 0 1 = figure-is e in absurd (omega arith)
+seek-end (Ok (End c)) e = (c, refl)
+seek-end (Err r) e = not-zero r e
 
-pub seek-above : (a : SeekAnswer) {n f : ℕ} → told n f ≡ seek_told a → 0 < n → (r : Refusal) × (a ≡ SeekRefused r)
+pub seek-above : (a : Result Stand Refusal) {n f : ℕ} → told n f ≡ seek_told a → 0 < n → (r : Refusal) × (a ≡ Err r)
 unfolding seek_told
-seek-above (Found run place) e l = not-above l e
-seek-above End e l = not-above l e
-seek-above (SeekRefused r) e l = (r, refl)
+seek-above (Ok (Found run place c)) e l = not-above l e
+seek-above (Ok (End c)) e l = not-above l e
+seek-above (Err r) e l = (r, refl)
 
-pub page-more : (a : PageAnswer) → told 0 1 ≡ page_told a → a ≡ More
+pub page-more : (a : Result Rest Refusal) → told 0 1 ≡ page_told a → (c : Spotted) × (a ≡ Ok (More c))
 unfolding page_told
-page-more More e = refl
-page-more PageEnd e = let z : ◌≡◌ {A = ℕ} 1 0 = figure-is e in absurd (omega arith)
-page-more (PageRefused r) e = not-zero r e
+page-more (Ok (More c)) e = (c, refl)
+page-more (Ok (RestEnd c)) e = let z : ◌≡◌ {A = ℕ} 1 0 = figure-is e in absurd (omega arith)
+page-more (Err r) e = not-zero r e
 
-pub page-end : (a : PageAnswer) → told 0 0 ≡ page_told a → a ≡ PageEnd
+pub page-end : (a : Result Rest Refusal) → told 0 0 ≡ page_told a → (c : Spotted) × (a ≡ Ok (RestEnd c))
 unfolding page_told
-page-end More e = let z : ◌≡◌ {A = ℕ} 0 1 = figure-is e in absurd (omega arith)
-page-end PageEnd e = refl
-page-end (PageRefused r) e = not-zero r e
+page-end (Ok (More c)) e = let z : ◌≡◌ {A = ℕ} 0 1 = figure-is e in absurd (omega arith)
+page-end (Ok (RestEnd c)) e = (c, refl)
+page-end (Err r) e = not-zero r e
 
-pub page-above : (a : PageAnswer) {n f : ℕ} → told n f ≡ page_told a → 0 < n → (r : Refusal) × (a ≡ PageRefused r)
+pub page-above : (a : Result Rest Refusal) {n f : ℕ} → told n f ≡ page_told a → 0 < n → (r : Refusal) × (a ≡ Err r)
 unfolding page_told
-page-above More e l = not-above l e
-page-above PageEnd e l = not-above l e
-page-above (PageRefused r) e l = (r, refl)
+page-above (Ok (More c)) e l = not-above l e
+page-above (Ok (RestEnd c)) e l = not-above l e
+page-above (Err r) e l = (r, refl)

@@ -3,7 +3,8 @@
 --     says                 check tray's answer is one that the table gives
 --     Wrong, says-one      the table gives one answer
 --     check-says           so check tray gives an answer exactly when the table does
-use Rattle.std.specs.Prelude.{◌≡◌, ◌↔◌, Bool, cond, List}
+use Rattle.refusal.specs.declared.Refusal.{Refusal}
+use Rattle.std.specs.Prelude.{◌≡◌, ◌↔◌, Bool, cond, List, Ok, Err, Result}
 use Rattle.std.proofs.Math.Path.{refl, subst}
 use Rattle.std.proofs.Common.{sym, ap, ap₂, ◌∙◌}
 use Prim.Native.Nat.{ℕ, zero, suc, ◌+◌, ◌≤◌, ◌<◌}
@@ -11,9 +12,7 @@ use native.Mathlib.Omega.{arith}
 use Rattle.std.proofs.Math.Bool.{true, false}
 use Rattle.refusal.specs.declared.Refusal.TheVariants.{TrayFrame, KeyOrder, RecordKind}
 use Rattle.theory.specs.Tests.{clash, order}
-use Rattle.tray.specs.declared.RunAnswer.{RunAnswer}
-use Rattle.tray.specs.declared.TrayAnswer.{TrayAnswer}
-use Rattle.tray.specs.declared.TrayAnswer.TheVariants.{Records, Refused}
+use Rattle.tray.specs.declared.Fault.{Fault}
 use Rattle.tray.specs.Frame.{run_count, count_of, records_before, run_bytes, framed, Framed}
 use Rattle.tray.specs.Frame.Laws.{framed-fits, fits-framed, upto, records_before-next, records_before-le}
 use Rattle.tray.specs.Run.{record_at, kind_wrong}
@@ -53,10 +52,10 @@ module _ (t : List ℕ) where
   unfolding check_runs after_run
   says-from zero r e f fine =
       let z : r ≡ run_count t = omega arith in
-      subst (λ n. Says t (Records (records_before t n))) (sym z) (records (fine-soundly f (subst (FineRuns t) z fine)))
+      subst (λ n. Says t (Ok (records_before t n))) (sym z) (records (fine-soundly f (subst (FineRuns t) z fine)))
   says-from (suc k) r e f fine = go (judged (run_bytes t r) (count_of t r) 0) (λ h. says-from k (suc r) (omega arith) f (upto fine h))
     where
-      go : {a : RunAnswer} → Judged (run_bytes t r) 0 (count_of t r) a → (FineRun t r → Says t (check_runs k t (suc r)))
+      go : {a : Result (Unit {0}) Fault} → Judged (run_bytes t r) 0 (count_of t r) a → (FineRun t r → Says t (check_runs k t (suc r)))
           → Says t (after_run (records_before t r) a (check_runs k t (suc r)))
       go (all-fine g) next = next (λ i l. g i (omega arith) (omega arith))
       go (kind_at q l h g w) next =
@@ -70,7 +69,7 @@ module _ (t : List ℕ) where
   unfolding check_tray_answer
   says = go (framed t) refl
     where
-      go : (b : Bool) → framed t ≡ b → Says t (cond b (check_runs (run_count t) t 0) (Refused TrayFrame))
+      go : (b : Bool) → framed t ≡ b → Says t (cond b (check_runs (run_count t) t 0) (Err TrayFrame))
       go true e = says-from (run_count t) 0 (omega arith) (framed-fits t e) (λ q l. absurd (omega arith))
       go false e = refused-1 (λ f. clash (fits-framed t f) e)
 
@@ -112,14 +111,14 @@ module _ (t : List ℕ) where
   sound-right {p = zero} s num (key-wrong w) = clash w (first_key _)
   sound-right {p = suc p} s num (key-wrong w) = clash w (rises-key _ _ (s.keys _ _ num.run num.inside))
 
-  pub says-one : {a b : TrayAnswer} → Says t a → Says t b → a ≡ b
+  pub says-one : {a b : Result ℕ Refusal} → Says t a → Says t b → a ≡ b
   says-one (refused-1 x) (refused-1 y) = refl
   says-one (refused-1 x) (refused-2 m q i f' b rb v k') = absurd (x f')
   says-one (refused-1 x) (refused-3 m q i f' b rb k') = absurd (x f')
   says-one (refused-1 x) (records s) = absurd (x s.frame)
   says-one (refused-2 n r p f a ra u k) (refused-1 y) = absurd (y f)
   says-one (refused-2 n r p f a ra u k) (refused-2 m q i f' b rb v k') =
-      ap (λ x. Refused (KeyOrder x)) (wrong-one a b ra rb (key-wrong k) (key-wrong k'))
+      ap (λ x. Err (KeyOrder x)) (wrong-one a b ra rb (key-wrong k) (key-wrong k'))
   says-one (refused-2 n r p f a ra u k) (refused-3 m q i f' b rb v) =
       let e = wrong-one a b ra rb (key-wrong k) (kind-wrong v) in kind-first b (subst (λ x. Numbered t x r p) e a) v u
   says-one (refused-2 n r p f a ra u k) (records s) = sound-right s a (key-wrong k)
@@ -127,7 +126,7 @@ module _ (t : List ℕ) where
   says-one (refused-3 n r p f a ra u) (refused-2 m q i f' b rb v k') =
       let e = wrong-one a b ra rb (kind-wrong u) (key-wrong k') in kind-first (subst (λ x. Numbered t x r p) e a) b u v
   says-one (refused-3 n r p f a ra u) (refused-3 m q i f' b rb v) =
-      ap (λ x. Refused (RecordKind x)) (wrong-one a b ra rb (kind-wrong u) (kind-wrong v))
+      ap (λ x. Err (RecordKind x)) (wrong-one a b ra rb (kind-wrong u) (kind-wrong v))
   says-one (refused-3 n r p f a ra u) (records s) = sound-right s a (kind-wrong u)
   says-one (records s) (refused-1 y) = absurd (y s.frame)
   says-one (records s) (refused-2 m q i f' b rb v k') = sound-right s b (key-wrong k')
@@ -135,5 +134,5 @@ module _ (t : List ℕ) where
   says-one (records s) (records s') = refl
 
   -- check tray gives an answer exactly when the table does
-  pub check-says : (a : TrayAnswer) → (check_tray_answer t ≡ a) ↔ Says t a
+  pub check-says : (a : Result ℕ Refusal) → (check_tray_answer t ≡ a) ↔ Says t a
   check-says a = (λ e. subst (Says t) e says, λ s. says-one says s)

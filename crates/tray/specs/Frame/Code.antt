@@ -1,15 +1,11 @@
 -- What the code of the frame promises, beside the definitions of `Frame.antt`. Its laws: `proofs/FrameCode.antt`.
-use Rattle.std.specs.Prelude.{◌≡◌, List, length, get_or}
+use Rattle.std.specs.Prelude.{◌≡◌, List, length, get_or, Result, MatchResult}
 use Prim.Native.Nat.{ℕ, ◌+◌, ◌*◌, ◌≤◌}
 use Rattle.std.proofs.Math.Bool.{true, false}
-use Rattle.tray.specs.declared.frame.TrayFrame.{TrayFrame}
-use Rattle.tray.specs.Frame.{header_fits}
-
--- a frame that does not fit
-pub record NoFrame (f : TrayFrame) : Type 0 where
-  pub none : f.fits ≡ false
-  pub room-counts : length f.counts ≡ 63
-  pub room-starts : length f.starts ≡ 64
+use Rattle.refusal.specs.declared.Refusal.{Refusal}
+use Rattle.refusal.specs.declared.Refusal.TheVariants.{TrayFrame}
+use Rattle.tray.specs.declared.Tray.{Tray}
+use Rattle.tray.specs.Frame.{header_fits, framed}
 
 module _ (t : List ℕ) where
   -- what a header that fits says
@@ -17,3 +13,7 @@ module _ (t : List ℕ) where
     pub fits : header_fits t ≡ true
     pub long : 4 + 2 * get_or t 0 0 ≤ length t
     pub most : get_or t 0 0 ≤ 63
+
+  -- the tray where its frame fits, and else refusal 1
+  abbrev pub Opens : Result Tray Refusal → Type 0
+  Opens o = MatchResult o (λ (f : Tray). (framed t ≡ true) × (f.bytes.now ≡ t)) (λ (e : Refusal). (framed t ≡ false) × (e ≡ TrayFrame))

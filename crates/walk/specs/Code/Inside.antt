@@ -3,18 +3,14 @@
 --     seek-below               so its cursor is not the end
 use Rattle.std.specs.Prelude.{◌≡◌, refl, ℕ, ◌-◌, ◌<◌, true, ◌&&◌, List, leb}
 use Rattle.std.proofs.Math.Path.{sym}
-use Rattle.std.proofs.Common.{ap, ◌∙◌, subst, arith}
+use Rattle.std.proofs.Common.{subst, arith}
 use Rattle.theory.specs.Tests.{cases, never, and_left}
-use Rattle.tray.specs.declared.Place.{Place}
-use Rattle.tray.specs.declared.RunNo.{RunNo}
 use Rattle.tray.specs.Frame.{run_bytes}
 use Rattle.tray.specs.Run.{record_at}
-use Rattle.walk.specs.declared.cursor.Sight.{Sight}
-use Rattle.walk.specs.declared.cursor.Sight.TheVariants.{Found as SightFound}
-use Rattle.walk.specs.declared.cursor.Sought.{Sought}
+use Rattle.walk.specs.declared.cursor.Sighting.{Sighting}
 use Rattle.walk.specs.Walk.{Spot, Visit, stay, go, stayed, walk_segments}
 use Rattle.walk.specs.Reads.{Found, unmarked, record_by, found_by, seek_visit}
-use Rattle.walk.specs.Code.{Walking, spot_of, sought_as, sought_of}
+use Rattle.walk.specs.Code.{Walking, spot_of}
 use Rattle.walk.specs.Code.Stayed.{Stands, segments-stayed}
 
 -- what is found stands at an unmarked selector of one of n segments, which names it
@@ -38,16 +34,12 @@ stay-inside t x key n v c st f stands e =
     other z = cc
 
 -- what the code's walk hands over
-module _ (t x : List ℕ) (key : ℕ) {h d n : ℕ} (g : ℕ) {counts : List ℕ} (s : Sought) (w : Walking t x h d n counts)
-    (walked : sought_of s ≡ walk_segments t x (seek_visit t key) (n - g) g 0) {run : RunNo} {place : Place} (y : s.sight ≡ SightFound run place) where
-  pub seek-inside : Inside t x n (record { run = run.0; place = place.0; spot = spot_of s.cursor })
-  unfolding sought_of sought_as
-  seek-inside =
-      let found : stayed (record { run = run.0; place = place.0; spot = spot_of s.cursor }) ≡ walk_segments t x (seek_visit t key) (n - g) g 0 =
-      sym (ap (λ (a : Sight). sought_as a (spot_of s.cursor)) y) ∙ walked in
-      segments-stayed t x (seek_visit t key) (Inside t x n) n (stay-inside t x key n) (n - g) g 0 _ (omega arith) (sym found)
+module _ (t x : List ℕ) (key : ℕ) {h d n : ℕ} (g : ℕ) {counts : List ℕ} (f : Sighting) (w : Walking t x h d n counts)
+    (walked : stayed (record { run = f.run.0; place = f.place.0; spot = spot_of f.cursor }) ≡ walk_segments t x (seek_visit t key) (n - g) g 0) where
+  pub seek-inside : Inside t x n (record { run = f.run.0; place = f.place.0; spot = spot_of f.cursor })
+  seek-inside = segments-stayed t x (seek_visit t key) (Inside t x n) n (stay-inside t x key n) (n - g) g 0 _ (omega arith) (sym walked)
 
-  pub seek-below : (s.cursor.segment.0 < n) × (s.cursor.selector < d)
+  pub seek-below : (f.cursor.segment.0 < n) × (f.cursor.selector < d)
   unfolding spot_of
   seek-below =
       let at = seek-inside.stands in

@@ -1,11 +1,15 @@
 -- The moves of a cursor over a selector (docs/RULES.md, "Walk"): passing a record raises its run's place by one.
-use Rattle.std.specs.Prelude.{◌≡◌, refl, ℕ, ◌+◌, ◌<◌, List, get_or, set}
+use Rattle.std.specs.Prelude.{◌≡◌, refl, ℕ, ◌+◌, ◌<◌, List, get_or, set, replicate}
 use Rattle.std.proofs.Common.{sym, ap, subst}
 use Rattle.tray.specs.declared.Place.{Place}
 use Rattle.index.specs.Scan.{raise}
 use Rattle.walk.specs.declared.cursor.Cursor.{Cursor}
 use Rattle.walk.specs.Walk.{Spot}
 use Rattle.walk.specs.Code.{placed, raise-numbers, spot_of}
+
+-- the end of an index of n segments
+abbrev pub end_at : ℕ → Cursor
+end_at n = record { segment = record { 0 = n }; selector = 0; places = replicate 63 (placed 0) }
 
 -- past a placeholder
 unfoldable pub past_gap : Spot → Spot

@@ -1,5 +1,4 @@
 -- What the code of the search needs of the definitions.
---     Probing                          the index as the code has it
 --     Probes, probes-start, probes-above, probes-below, probes-end    the loop begins, goes on and ends
 --     middle-is                        the middle, computed so that no sum passes its type
 --     anchor-inside                    a probed anchor lies in the index
@@ -10,17 +9,11 @@ use Prim.Native.Nat.{ℕ, zero, suc, pred, ◌+◌, ◌-◌, ◌*◌, ◌/◌, �
 use Rattle.std.proofs.Math.Numerals.{sub-one}
 use borrow.Author.Tests.{le-leb, lt-leb}
 use Rattle.number.specs.Big.{be}
-use Rattle.index.specs.Layout.{size_of, segment_count, segment_at}
-use Rattle.index.specs.Layout.Code.{segment_at-next, segment_at-le}
+use Rattle.index.specs.Layout.{size_of, segment_at}
+use Rattle.index.specs.Layout.Code.{Laid, segment_at-next, segment_at-le}
 use Rattle.walk.specs.Start.{probe, start}
 
--- an index whose frame fits, with its segment size and count at hand
-pub record Probing (x : List ℕ) (h d n : ℕ) : Type 0 where
-  pub size : d ≡ size_of x
-  pub count : n ≡ segment_count x
-  pub whole : length x ≡ segment_at h d n
-
-module _ (x : List ℕ) (h d n key : ℕ) (f : Probing x h d n) where
+module _ (x : List ℕ) (h d n key : ℕ) (f : Laid x h d n) where
   -- the segments from `first` up to `past` are left, with as many probes as are enough
   pub record Probes (first past : ℕ) : Type 0 where
     pub fuel : ℕ

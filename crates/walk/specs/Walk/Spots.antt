@@ -6,7 +6,7 @@
 --     spells, spots_from, spots     of segments in a row, and of the whole index
 --     spots_in-append               the records of a segment in two parts
 --     entries_of, entries-in        the records at the stops
-use Rattle.std.specs.Prelude.{◌≡◌, refl, ℕ, zero, suc, ◌+◌, List, [], ◌∷◌, ◌++◌, map, length, take, drop}
+use Rattle.std.specs.Prelude.{◌≡◌, refl, ℕ, zero, suc, ◌+◌, List, [], ◌∷◌, ◌++◌, map, length, take, drop, Ok}
 use Rattle.std.proofs.Common.{ap, add-zero, arith, append-nil}
 use Rattle.std.proofs.Math.Seq.{append_snoc}
 use Rattle.theory.specs.View.{view}
@@ -15,7 +15,6 @@ use Rattle.tray.specs.Check.{Sound}
 use Rattle.tray.specs.Meaning.{runs_of}
 use Rattle.index.specs.Layout.{segment_count, segment_of, segments_of, IndexFramed}
 use Rattle.index.specs.Rules.{key_of, Item, spelled, Accepted}
-use Rattle.index.specs.declared.IndexAnswer.TheVariants.{Segments}
 use Rattle.index.specs.Check.{check_index_answer}
 use Rattle.index.specs.Check.Theorems.{answers-segments}
 use Rattle.index.specs.Scan.Places.{places_of}
@@ -28,7 +27,7 @@ pub record Reading (t x : List ℕ) : Type 0 where
   pub accepted : Accepted (runs_of t) (segments_of (run_count t) x)
 
 -- check index accepts exactly what may be read
-pub check-reading : (t x : List ℕ) (n : ℕ) → check_index_answer t x ≡ Segments n → Reading t x
+pub check-reading : (t x : List ℕ) (n : ℕ) → check_index_answer t x ≡ Ok n → Reading t x
 check-reading t x n e =
     let w = (answers-segments t x n).0 e in record { sound = w.0; frame = w.1; accepted = w.2 }
 

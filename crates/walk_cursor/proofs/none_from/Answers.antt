@@ -1,18 +1,18 @@
--- `walk_cursor::none_from` meets its contract.
+-- Invariant: the highest so far and the places not yet seen answer for all.
+use Rattle.std.proofs.Common.{◌+◌, ap, ◌∙◌, sym, arith}
+use Prim.Native.Nat.{max}
+use Rattle.walk.specs.Code.{placed, get_or-numbers}
 use Rattle.walk_cursor.specs.Standing.{none-turn, none_end}
-use mathlib.Core.Path.{refl, ◌∙◌}
-use native.Mathlib.Omega.{arith}
+use Rattle.walk_cursor.proofs.Part.{part-at}
 use Rattle.walk_cursor.proofs.none_from.Goals as goal
 
-pub loop-r-init : goal.loop-r-init
-loop-r-init c = (omega arith, refl)
-
-pub loop-r-preserved : goal.loop-r-preserved
-loop-r-preserved c =
-    let loop = c.loop-r in
-    (omega arith, none-turn _ _ (omega arith) c.higher-top.ensures ∙ loop.invariant.1)
+pub loop-p-preserved : goal.loop-p-preserved
+loop-p-preserved c =
+    let i = c.loop-p.p-index in
+    none-turn _ _ {r = c.args.from + i} (omega arith) (omega arith)
+    (c.max-top.ensures
+    ∙ ap (max _) (ap (λ p. p.0) (part-at c.args.from _ c.args.places.now i (placed 0) c.loop-p-test.true) ∙ sym (get_or-numbers c.args.places.now (c.args.from + i))))
+    ∙ c.loop-p.invariant
 
 pub returns : goal.returns
-returns c =
-    let loop = c.loop-r in
-    none_end _ _ (omega arith) ∙ loop.invariant.1
+returns c = none_end _ _ (omega arith) ∙ c.loop-p.invariant

@@ -1,59 +1,28 @@
--- `walk_cursor::places_hold` meets its contract.
-use mathlib.Core.Path.{refl, sym, ap, ◌∙◌}
-use Prim.Native.Nat.{◌-◌}
-use Rattle.index.specs.Scan.Code.{same_to, same_end, same_next, same_stop}
-use Rattle.walk_cursor.specs.Standing.{wanted-run}
-use native.Mathlib.Omega.{arith}
+-- Invariant: the places before r are as they must be.
+use Rattle.std.proofs.Common.{refl, sym, ◌∙◌, arith}
+use Rattle.index.specs.Scan.Code.{same_to, same_next}
+use Rattle.walk.specs.Code.{get_or-numbers}
+use Rattle.walk_cursor.specs.Standing.{same-off, wanted-run}
 use Rattle.walk_cursor.proofs.places_hold.Goals as goal
 
 pub loop-r-init : goal.loop-r-init
-loop-r-init c = (omega arith, ap (same_to _ _) c.usize_of_u8-r.ensures)
-
-pub overflow_add-u32_of_u16 : goal.overflow_add-u32_of_u16
-overflow_add-u32_of_u16 c =
-    let shared-slice-known3 = c.shared_slice_known-in-loop-r-1 in
-    let u32-of-u162 = c.u32_of_u16-in-loop-r in
-    let loop = c.loop-r in
-    omega (arith, u32-of-u162.ensures.upper_bound, c.u32_of_u8.ensures, shared-slice-known3.given (loop.r - 1))
+unfolding same_to
+loop-r-init c = refl
 
 pub loop-r-preserved : goal.loop-r-preserved
 loop-r-preserved c =
-    let u32-of-u8 = c.u32_of_u8 in
-    let back = c in
-    let u32-of-u162 = back.u32_of_u16-in-loop-r in
-    let big2 = back.big2 in
-    let u32-of-u16 = back.u32_of_u16 in
-    let back = back in
-    let loop-test = back.loop-r-test in
-    let loop = back.loop-r in
-    let pre = back.requires in (
-      omega arith,
-      sym
-          (same_next _ _ loop-test.true refl
-          (sym u32-of-u16.ensures.value
-          ∙ c.if-u32_of_u16-u32_of_u8.true
-          ∙ (wanted-run _ _ _ _ pre.1 (omega arith) (u32-of-u162.ensures.value ∙ big2.ensures) u32-of-u8.ensures)))
-          ∙ loop.invariant.1,
-    )
+    let r = c.loop-r.r in
+    same_next _ _ (omega arith) (omega arith)
+    (get_or-numbers c.args.places.now r
+    ∙ sym c.from.ensures
+    ∙ c.if-from.false
+    ∙ wanted-run _ c.args.index.now.bytes.now _ c.args.seen.now c.requires.1 (omega arith) (c.from-in-loop-r.ensures ∙ c.read-offset.ensures) c.from-in-loop-r-2.ensures)
+    ∙ c.loop-r.invariant
 
-pub returns-in-loop-r : goal.returns-in-loop-r
-returns-in-loop-r c =
-    let u32-of-u8 = c.u32_of_u8 in
-    let back = c in
-    let u32-of-u162 = back.u32_of_u16-in-loop-r in
-    let big2 = back.big2 in
-    let u32-of-u16 = back.u32_of_u16 in
-    let back = back in
-    let loop-test = back.loop-r-test in
-    let loop = back.loop-r in
-    let pre = back.requires in
-    sym
-    (same_stop _ _ loop-test.true refl
-    (λ z. c.if-u32_of_u16-u32_of_u8.false
-    (u32-of-u16.ensures.value ∙ z ∙ sym (wanted-run _ _ _ _ pre.1 (omega arith) (u32-of-u162.ensures.value ∙ big2.ensures) u32-of-u8.ensures))))
-    ∙ loop.invariant.1
-
-pub returns : goal.returns
-returns c =
-    let loop = c.loop-r in
-    same_end _ _ c.loop-r-test.false ∙ loop.invariant.1
+pub returns-then-from : goal.returns-then-from
+returns-then-from c =
+    let r = c.loop-r.r in
+    let wanted = wanted-run c.args.index.now.runs c.args.index.now.bytes.now c.segment_at-at.result c.args.seen.now c.requires.1 (omega arith) (c.from-in-loop-r.ensures ∙ c.read-offset.ensures)
+    c.from-in-loop-r-2.ensures in
+    rw (← c.segment_at-at.ensures.value)
+    (sym (same-off _ _ _ r (omega arith) (λ e. c.if-from.true (c.from.ensures ∙ sym (get_or-numbers c.args.places.now r) ∙ e ∙ sym wanted))))

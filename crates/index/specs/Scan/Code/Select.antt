@@ -1,9 +1,10 @@
 -- What the code of one selector needs of the definitions. Tests stand as numbers there, 1 for true.
---     bit-low, off-low         such a number is at most 1
 --     begin-is                 the first selector of a segment
 --     follow-is, follow-falls, follow-not    a later one
+--     and_none                 a test of two parts whose second one fails
 --     joins-head, begins-head  of a record only key and kind count
-use Rattle.std.specs.Prelude.{◌≡◌, refl, ℕ, ◌+◌, ◌-◌, ◌*◌, ◌/◌, ◌%◌, ◌≤◌, ◌<◌, Bool, ◌&&◌, ◌||◌, eqb, leb}
+use Rattle.std.specs.Prelude.{◌≡◌, refl, ℕ, ◌+◌, ◌-◌, ◌*◌, ◌/◌, ◌%◌, ◌≤◌, ◌<◌, Bool, ◌&&◌, ◌||◌, not, eqb, leb}
+use Rattle.std.specs.Int.{from_bool}
 use Rattle.std.proofs.Math.Path.{sym, ap}
 use Rattle.std.proofs.Common.{◌∙◌, le_of_lt}
 use native.Mathlib.Omega.{arith}
@@ -16,16 +17,12 @@ use Rattle.tray.specs.declared.Head.{Head}
 use Rattle.index.specs.Scan.{marked, begins, joins}
 use Rattle.tray.specs.Run.Code.{HeadOf, headed}
 
-pub bit-low : (b : Bool) → cond b 1 0 ≤ 1
+bit-low : (b : Bool) → from_bool (not b) ≤ 1
 bit-low true = omega arith
 bit-low false = omega arith
 
-pub off-low : (b : Bool) → cond b 0 1 ≤ 1
-off-low true = omega arith
-off-low false = omega arith
-
 -- the marks, computed and as they are
-marks : (v s g : ℕ) (o l : Bool) → s ≡ cond o 1 0 → g ≡ cond l 0 1 → v + 128 * s + 64 * g ≡ v + (cond o 128 0 + cond l 0 64)
+marks : (v s g : ℕ) (o l : Bool) → s ≡ from_bool o → g ≡ from_bool (not l) → v + 128 * s + 64 * g ≡ v + (cond o 128 0 + cond l 0 64)
 marks v s g true true p q = omega arith
 marks v s g true false p q = omega arith
 marks v s g false true p q = omega arith
@@ -42,20 +39,20 @@ and-all : (a : Bool) → (a && true) ≡ a
 and-all true = refl
 and-all false = refl
 
-and_none : (a : Bool) → (a && false) ≡ false
+pub and_none : (a : Bool) → (a && false) ≡ false
 and_none true = refl
 and_none false = refl
 
 module _ (v : ℕ) (e : Head) where
-  pub begin-is : {g : ℕ} → g ≡ cond (eqb e.kind 0) 0 1 → eqb v (v % 64 + 64 * g) ≡ begins v (headed e)
+  pub begin-is : {g : ℕ} → g ≡ from_bool (not (eqb e.kind 0)) → eqb v (v % 64 + 64 * g) ≡ begins v (headed e)
   unfolding begins marked
   begin-is {g} h = ap (eqb v) (plain (v % 64) g (eqb e.kind 0) h)
     where
-      plain : (r k : ℕ) (l : Bool) → k ≡ cond l 0 1 → r + 64 * k ≡ r + (0 + cond l 0 64)
+      plain : (r k : ℕ) (l : Bool) → k ≡ from_bool (not l) → r + 64 * k ≡ r + (0 + cond l 0 64)
       plain r k true q = omega arith
       plain r k false q = omega arith
 
-  module _ (last before : ℕ) {s g : ℕ} (same : s ≡ cond (eqb last e.key) 1 0) (gone : g ≡ cond (eqb e.kind 0) 0 1) where
+  module _ (last before : ℕ) {s g : ℕ} (same : s ≡ from_bool (eqb last e.key)) (gone : g ≡ from_bool (not (eqb e.kind 0))) where
     module _ (fits : v ≡ v % 64 + 128 * s + 64 * g) where
       marked-so : eqb v (v % 64 + (cond (eqb last e.key) 128 0 + cond (eqb e.kind 0) 0 64)) ≡ true
       marked-so = eq-eqb v _ (fits ∙ marks (v % 64) s g (eqb last e.key) (eqb e.kind 0) same gone)
@@ -75,7 +72,7 @@ module _ (v : ℕ) (e : Head) where
           equal-keys : eqb last e.key ≡ true → leb (v / 128) ((63 + v % 64 - before) / 64) ≡ joins last before v (headed e)
           equal-keys y =
               let h : s ≡ 1 = rw y at same in
-              let k = off-low (eqb e.kind 0) in
+              let k = bit-low (eqb e.kind 0) in
               let q : v / 128 ≡ 1 = omega arith in
               let z : last ≡ e.key = eqb-true last e.key y in
               later before (v % 64) (v / 128) b low q ∙ sym (rw (marked-so, le-ltb last e.key (omega arith), y) (and-all (ltb before (v % 64))))
@@ -83,7 +80,7 @@ module _ (v : ℕ) (e : Head) where
           other_keys : eqb last e.key ≡ false → leb (v / 128) ((63 + v % 64 - before) / 64) ≡ joins last before v (headed e)
           other_keys n =
               let h : s ≡ 0 = rw n at same in
-              let k = off-low (eqb e.kind 0) in
+              let k = bit-low (eqb e.kind 0) in
               let q : v / 128 ≡ 0 = omega arith in
               let d : last ≡ e.key → ⊥ = eqb-false last e.key n in
               let up : last < e.key = omega arith in

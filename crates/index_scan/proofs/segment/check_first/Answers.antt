@@ -1,94 +1,22 @@
--- `index_scan::segment::check_first` meets its contract: each way out is a test of the first selector, in its order.
+-- `index_scan::segment::check_first` meets its contract: the record that the selector names, if it names one, decides.
 use Rattle.index.specs.Scan.Code.{trailed}
-use Rattle.index.specs.Scan.Code.Steps.{next-below, begin-reads, begin-not, begin-other, begin-end, begin-past}
-use native.Mathlib.Omega.{arith}
+use Rattle.index.specs.Scan.Code.Steps.{begin-none, begin-not, begin-other, begin-read}
 use Rattle.index_scan.proofs.segment.check_first.Goals as goal
+use Rattle.index_scan.proofs.segment.check_first.Goals.{else-may_begin-via-then-may_begin+else-anchor-e, else-may_begin-via-else-may_begin}
 
-pub head_of-e-requires : goal.head_of-e-requires
-head_of-e-requires c =
-    let usize-of-u8 = c.usize_of_u8-i in
-    let reading = c.requires.reading in record { starts = reading.at; r_bound = omega arith; p_bound = next-below reading (omega arith) usize-of-u8.ensures c.if-p-counts.true }
-
-pub overflow_add-places : goal.overflow_add-places
-overflow_add-places c =
-    let shared-slice-known4 = c.shared_slice_known-then-r-h-1 in
-    let usize-of-u8 = c.usize_of_u8-i in
-    omega (arith, shared-slice-known4.given usize-of-u8.result)
-
-pub returns-then-anchor-key : goal.returns-then-anchor-key
+pub returns-in_err-p : goal.returns-in_err-p
 unfolding trailed
-returns-then-anchor-key c =
-    let if3 = c.if-may_begin in
-    let back = c in
-    let may-begin = back.may_begin in
-    let head_of = back.head_of-e in
-    let back = back in
-    let if2 = back.if-p-counts in
-    let back = back in
-    let usize-of-u8 = back.usize_of_u8-i in
-    let if1 = back.if-r-h in
-    let pre = back.requires in
-    let reading = back.requires.reading in
-    begin-reads _ reading
-    pre.h_value
-    if1.true
-    usize-of-u8.ensures
-    if2.true
-    head_of.ensures
-    _
-    may-begin.ensures
-    if3.true
-    c.if-anchor-key.true
+returns-in_err-p c = rw c.from_residual.ensures (begin-none _ _ _ _ c.in_err-p.ensures _)
 
-pub returns-else-anchor-key : goal.returns-else-anchor-key
-unfolding trailed
-returns-else-anchor-key c =
-    let if3 = c.if-may_begin in
-    let back = c in
-    let may-begin = back.may_begin in
-    let head_of = back.head_of-e in
-    let back = back in
-    let if2 = back.if-p-counts in
-    let back = back in
-    let usize-of-u8 = back.usize_of_u8-i in
-    let if1 = back.if-r-h in
-    let pre = back.requires in
-    let reading = back.requires.reading in
-    begin-other _ reading
-    pre.h_value
-    if1.true
-    usize-of-u8.ensures
-    if2.true
-    head_of.ensures
-    _
-    may-begin.ensures
-    if3.true
-    c.if-anchor-key.false
+pub returns-then-anchor-e : goal.returns-then-anchor-e
+returns-then-anchor-e c =
+    rw c.from.ensures (begin-read _ _ _ _ _ c.in_ok-p.ensures c.head-e.ensures _ c.may_begin.ensures c.if-may_begin.true c.if-anchor-e.true)
 
-pub returns-else-may_begin : goal.returns-else-may_begin
+pub returns : goal.returns
 unfolding trailed
-returns-else-may_begin c =
-    let may-begin = c.may_begin in
-    let back = c in
-    let head_of = back.head_of-e in
-    let if2 = back.if-p-counts in
-    let back = back in
-    let usize-of-u8 = back.usize_of_u8-i in
-    let if1 = back.if-r-h in
-    let pre = back.requires in
-    let reading = back.requires.reading in
-    begin-not _ reading pre.h_value if1.true usize-of-u8.ensures if2.true head_of.ensures _ may-begin.ensures c.if-may_begin.false
-
-pub returns-else-p-counts : goal.returns-else-p-counts
-unfolding trailed
-returns-else-p-counts c =
-    let back = c in
-    let usize-of-u8 = back.usize_of_u8-i in
-    let if1 = back.if-r-h in
-    let pre = back.requires in
-    let reading = back.requires.reading in
-    begin-end _ reading pre.h_value if1.true usize-of-u8.ensures _ c.if-p-counts.false
-
-pub returns-else-r-h : goal.returns-else-r-h
-unfolding trailed
-returns-else-r-h c = begin-past _ _ _ _ _ c.if-r-h.false
+returns c =
+    elim c.else-may_begin.branch [
+      | else-may_begin-via-then-may_begin+else-anchor-e w ↦
+          begin-other _ _ _ _ _ c.in_ok-p.ensures c.head-e.ensures _ c.may_begin.ensures w.if-may_begin.true w.if-anchor-e.false
+      | else-may_begin-via-else-may_begin w ↦ begin-not _ _ _ _ _ c.in_ok-p.ensures c.head-e.ensures _ c.may_begin.ensures w.if-may_begin.false
+    ]

@@ -1,26 +1,33 @@
--- `index_scan::segment::check_segment` meets its contract: the offsets decide, and then the check-selectors.
-use Rattle.index.specs.Scan.Code.Follow.{segment-offsets, segment-scanned}
+-- `index_scan::segment::check_segment` meets its contract: its offsets, its first selector, those that follow and the next keys decide in turn.
 use Rattle.index.specs.Scan.Code.{told}
+use Rattle.index.specs.Scan.Code.Follow.{segment-offsets, segment-first, segment-follow, segment-heads}
 use native.Mathlib.Omega.{arith}
 use Rattle.index_scan.proofs.segment.check_segment.Goals as goal
 
-pub check_selectors-requires : goal.check_selectors-requires
-check_selectors-requires c =
-    let back = c in
-    let pre = back.requires in
-    let reading = back.requires.reading in record { reading = reading; h_value = pre.h_value.0; from_lt_to = omega arith }
+pub returns-then-not-offsets_hold : goal.returns-then-not-offsets_hold
+unfolding told
+returns-then-not-offsets_hold c =
+    let at = c.segment_at-at.ensures.value in
+    rw (← (rw c.requires.runs at at)) (segment-offsets _ _ _ _ _ _ c.offsets_hold.ensures c.if-not-offsets_hold.true)
 
-pub returns-then-offsets_hold : goal.returns-then-offsets_hold
-returns-then-offsets_hold c =
-    let check-selectors = c.check_selectors in
-    let back = c in
-    let big8 = back.big8 in
-    let if1 = back.if-offsets_hold in
-    let offsets-hold = back.offsets_hold in
-    segment-scanned _ _ _ _ _ _ _ _ _ offsets-hold.ensures if1.true big8.ensures (omega arith) (omega arith) check-selectors.ensures
+pub returns-in_default : goal.returns-in_default
+unfolding told
+returns-in_default c =
+    let at = c.segment_at-at.ensures.value in
+    rw (← (rw c.requires.runs at at))
+    (segment-first _ _ _ _ _ _ c.offsets_hold.ensures c.if-not-offsets_hold.false (omega arith) c.read.ensures _ _ c.check_first.ensures c.in_default.is)
+
+pub returns-in_default-check_following : goal.returns-in_default-check_following
+unfolding told
+returns-in_default-check_following c =
+    let at = c.segment_at-at.ensures.value in
+    rw (← (rw c.requires.runs at at))
+    (segment-follow _ _ _ _ _ _ c.offsets_hold.ensures c.if-not-offsets_hold.false (omega arith) c.read.ensures _ _ c.check_first.ensures c.in-Some.is (omega arith) (omega arith) (omega arith)
+    _ _ c.check_following.ensures c.in_default-check_following.is)
 
 pub returns : goal.returns
-unfolding told
 returns c =
-    let offsets-hold = c.offsets_hold in
-    segment-offsets _ _ _ _ _ _ offsets-hold.ensures c.if-offsets_hold.false
+    let at = c.segment_at-at.ensures.value in
+    rw (← (rw c.requires.runs at at))
+    (segment-heads _ _ _ _ _ _ c.offsets_hold.ensures c.if-not-offsets_hold.false (omega arith) c.read.ensures _ _ c.check_first.ensures c.in-Some.is (omega arith) (omega arith) (omega arith)
+    _ _ c.check_following.ensures c.in-Some-check_following.is c.heads_above.ensures)

@@ -1,30 +1,20 @@
--- `index_scan::segment::heads_above` meets its contract. Invariant: the runs left answer for all. Measure: the runs left.
-use mathlib.Core.Path.{refl, sym, ◌∙◌}
-use Rattle.index.specs.Scan.Code.{heads-end, heads-next, heads-stop}
-use native.Mathlib.Omega.{arith}
+-- `index_scan::segment::heads_above` meets its contract. Invariant: the next keys of the runs so far are above.
+use mathlib.Core.Path.{refl, sym}
+use Rattle.index.specs.Scan.{heads_above}
+use Rattle.index.specs.Scan.Code.{heads-none, heads-some, heads-stop}
 use Rattle.index_scan.proofs.segment.heads_above.Goals as goal
+use Rattle.index_scan.proofs.segment.heads_above.Goals.{in-Some+else-e-last, in_default}
 
 pub loop-r-init : goal.loop-r-init
-loop-r-init c = (omega arith, refl)
+unfolding heads_above
+loop-r-init c = refl
 
-pub head_above-requires : goal.head_above-requires
-head_above-requires c = let reading = c.requires.reading in record { reading = reading; r_bound = omega arith }
+pub returns-then-e-last : goal.returns-then-e-last
+returns-then-e-last c = sym (heads-stop _ _ _ _ _ _ c.in-Some.ensures c.head-e.ensures c.loop-r-test.true c.if-e-last.true)
 
 pub loop-r-preserved : goal.loop-r-preserved
 loop-r-preserved c =
-    let head-above = c.head_above in
-    let loop-test = c.loop-r-test in
-    let loop = c.loop-r in
-    (omega arith, sym (heads-next _ _ _ loop-test.true refl head-above.ensures c.if-head_above.true) ∙ loop.invariant.1)
-
-pub returns-in-loop-r : goal.returns-in-loop-r
-returns-in-loop-r c =
-    let head-above = c.head_above in
-    let loop-test = c.loop-r-test in
-    let loop = c.loop-r in
-    sym (heads-stop _ _ _ loop-test.true refl head-above.ensures c.if-head_above.false) ∙ loop.invariant.1
-
-pub returns : goal.returns
-returns c =
-    let loop = c.loop-r in
-    heads-end _ _ _ c.loop-r-test.false ∙ loop.invariant.1
+    elim c.match-next_place.branch [
+      | in-Some+else-e-last w ↦ heads-some _ _ _ _ _ _ w.in-Some.ensures w.head-e.ensures c.loop-r.invariant w.if-e-last.false
+      | in_default w ↦ heads-none _ _ _ _ _ c.loop-r.invariant c.loop-r-test.true w.in_default.ensures
+    ]

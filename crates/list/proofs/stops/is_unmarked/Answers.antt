@@ -1,7 +1,8 @@
--- `list::stops::is_unmarked` meets its contract.
-use Rattle.list.specs.Stops.Code.{unmarked-is}
-use native.Mathlib.Omega.{arith}
+use Rattle.std.proofs.Common.{◌∙◌, ltb, refl}
+use Rattle.theory.specs.Tests.{cases}
+use Rattle.walk.specs.Reads.{unmarked}
 use Rattle.list.proofs.stops.is_unmarked.Goals as goal
 
 pub returns : goal.returns
-returns c = unmarked-is _ (omega arith) c.usize_of_u8.ensures
+unfolding unmarked
+returns c = c.from.ensures ∙ cases (ltb c.args.v 64) (λ y. rw y refl) (λ n. rw n refl)

@@ -1,104 +1,21 @@
 -- What the code of the leads needs: each law is a way out of a function, or a turn of its loop.
---     first_one, first-ahead                         the first of one run, and of two stretches
---     topped-one, topped-ahead                       the same of blocks
---     half-set, runs-there, half-first               a block of up to four runs
---     kept-is, leading-none, -more, -all, -set       the blocks, one by one
---     Ended, ended-none, -more, left_here, -none     the runs at their end, one by one
+--     leading-none, leading-set                      the blocks, one by one
 --     nexts-none, -more, -all, after_is, -past       the keys after the next ones, run by run
---     place-low, raised, moved                       one record taken
-use Rattle.std.specs.Prelude.{◌≡◌, refl, ℕ, ◌+◌, ◌*◌, ◌/◌, ◌≤◌, ◌<◌, cond, List, length, get_or, set, eqb, ltb}
-use Rattle.std.proofs.Common.{sym, ap, ◌∙◌, subst, add-one, arith, length-set, get_or-set_same, get_or-set_other, le-ltb, ltb-true, ltb-false, eqb-true}
+--     place-low, raised, tray-reading, moved         one record taken
+use Rattle.std.specs.Prelude.{◌≡◌, ℕ, ◌+◌, ◌*◌, ◌/◌, ◌≤◌, ◌<◌, List, length, get_or, set, eqb}
+use Rattle.std.proofs.Common.{sym, ap, ◌∙◌, subst, add-one, arith, length-set, get_or-set_same, get_or-set_other, le-ltb, eqb-true}
 use Rattle.std.proofs.lemmas.Bool.{eqb-false}
 use Rattle.theory.specs.Tests.{cases, order}
-use Rattle.tray.specs.Frame.{run_count, count_of, start_of, run_bytes}
+use Rattle.tray.specs.Frame.{run_count, count_of, run_bytes}
 use Rattle.tray.specs.Frame.Laws.{upto}
 use Rattle.index.specs.Scan.{raise}
 use Rattle.index.specs.Scan.Code.{Reading}
-use Rattle.merge_lead.specs.declared.Lead.{Lead}
-use Rattle.merge_lead.specs.Heads.{highest, key_or, next_key, Padded}
-use Rattle.merge_lead.specs.Heads.Leads.{First, Half, Topped, Kept, Leading, Nexts, Heading, FirstLeft}
-
-module _ (keys : List ℕ) where
-  pub first_one : {i r : ℕ} → i ≡ r → First keys r (r + 1) (get_or keys i 0) r
-  first_one {i} {r} e =
-      record {
-        from = omega arith;
-        below = omega arith;
-        here = ap (λ (j : ℕ). get_or keys j 0) (sym e);
-        low = λ j l m. let q : j ≡ i = omega arith in omega (arith, ap (λ (n : ℕ). get_or keys n 0) q);
-        before = λ j l m. absurd (omega arith);
-      }
-
-  first-left : {a b e k r k' r' : ℕ} → First keys a b k r → First keys b e k' r' → k ≤ k' → First keys a e k r
-  first-left {a} {b} {e} {k} x y l =
-      record {
-        from = x.from;
-        below = omega (arith, x.below, y.from, y.below);
-        here = x.here;
-        low = λ i p q. cases (ltb i b) (λ t. x.low i p (ltb-true _ _ t)) (λ f. omega (arith, y.low i (ltb-false _ _ f) q));
-        before = x.before;
-      }
-
-  first-right : {a b e k r k' r' : ℕ} → First keys a b k r → First keys b e k' r' → k' < k → First keys a e k' r'
-  first-right {a} {b} {e} {k} {r} {k'} {r'} x y l =
-      record {
-        from = omega (arith, x.from, x.below, y.from);
-        below = y.below;
-        here = y.here;
-        low = λ i p q. cases (ltb i b) (λ t. omega (arith, x.low i p (ltb-true _ _ t))) (λ f. y.low i (ltb-false _ _ f) q);
-        before = λ i p q. cases (ltb i b) (λ t. omega (arith, x.low i p (ltb-true _ _ t))) (λ f. y.before i (ltb-false _ _ f) q);
-      }
-
-  pub first-ahead : {a b b' e e' : ℕ} {x y m : Lead} → m ≡ cond (ltb y.key x.key) y x → First keys a b x.key x.run → First keys b' e y.key y.run
-      → b ≡ b' → e ≡ e' → First keys a e' m.key m.run
-  first-ahead {a} {b} {b'} {e} {e'} {x} {y} {m} is p q' j n =
-      let q : First keys b e' y.key y.run = subst (λ (i : ℕ). First keys i e' y.key y.run) (sym j) (subst (λ (i : ℕ). First keys b' i y.key y.run) n q') in
-      cases (ltb y.key x.key)
-      (λ t. subst (λ (l : Lead). First keys a e' l.key l.run) {x = y} {y = m} (sym (is ∙ rw t)) (first-right p q (ltb-true _ _ t)))
-      (λ f. subst (λ (l : Lead). First keys a e' l.key l.run) {x = x} {y = m} (sym (is ∙ rw f)) (first-left p q (ltb-false _ _ f)))
-
-module _ (tops firsts : List ℕ) where
-  pub topped-one : (b : ℕ) → Topped tops firsts b (b + 1) (get_or tops b 0) (get_or firsts b 0)
-  topped-one b = record { block = b; first = first_one tops refl; run = refl }
-
-  pub topped-ahead : {a b b' e e' : ℕ} {x y m : Lead} → m ≡ cond (ltb y.key x.key) y x
-      → Topped tops firsts a b x.key x.run → Topped tops firsts b' e y.key y.run → b ≡ b' → e ≡ e' → Topped tops firsts a e' m.key m.run
-  topped-ahead {a} {b} {b'} {e} {e'} {x} {y} {m} is p q' j n =
-      let q : First tops b e' y.key q'.block = subst (λ (i : ℕ). First tops i e' y.key q'.block) (sym j) (subst (λ (i : ℕ). First tops b' i y.key q'.block) n q'.first) in
-      cases (ltb y.key x.key)
-      (λ t. subst (λ (l : Lead). Topped tops firsts a e' l.key l.run) {x = y} {y = m} (sym (is ∙ rw t))
-      (record { block = q'.block; first = first-right tops p.first q (ltb-true _ _ t); run = q'.run }))
-      (λ f. subst (λ (l : Lead). Topped tops firsts a e' l.key l.run) {x = x} {y = m} (sym (is ∙ rw f))
-      (record { block = p.block; first = first-left tops p.first q (ltb-false _ _ f); run = p.run }))
-
--- a run with another key; the tray's first byte is how many there are
-pub half-set : (t : List ℕ) {keys : List ℕ} {r i : ℕ} (x : ℕ) → Padded keys (run_count t) → r < run_count t → i ≡ r → Half (set keys i x) (get_or t 0 0) (r / 8)
-unfolding run_count
-half-set t {keys} {i = i} x p l q =
-    record { only = λ m. omega arith; past = λ m j a b. get_or-set_other keys i j x 0 (λ z. omega arith) ∙ p.past j (omega arith) (omega arith) }
-
-pub runs-there : {t counts starts places : List ℕ} → Reading t counts starts places → 0 < length t
-unfolding start_of
-runs-there g = omega (arith, g.at.frame.whole)
-
--- the first of up to four runs is the first of the block
-pub half-first : {keys : List ℕ} {h b k r : ℕ} → Half keys h b → h ≤ 4 → First keys 0 4 k r → k ≤ highest → First keys (8 * b) (8 * b + 8) k r
-half-first {keys} {b = b} {k} {r} w few f most =
-    subst (λ (c : ℕ). First keys (8 * c) (8 * c + 8) k r) (sym (w.only few))
-    (record {
-      from = omega arith;
-      below = omega (arith, f.below);
-      here = f.here;
-      low = λ i p q. cases (ltb i 4) (λ y. f.low i (omega arith) (ltb-true _ _ y)) (λ n. omega (arith, w.past few i (ltb-false _ _ n) (omega arith)));
-      before = λ i p q. f.before i (omega arith) q;
-    })
+use Rattle.merge_lead.specs.declared.Heads.{Heads}
+use Rattle.tray.specs.declared.Tray.{Tray}
+use Rattle.merge_lead.specs.Heads.{highest, key_or, next_key, Caching}
+use Rattle.merge_lead.specs.Heads.Leads.{First, Kept, Leading, Nexts, Heading}
 
 -- a block kept
-pub kept-is : {keys : List ℕ} {b i k r : ℕ} (tops firsts : List ℕ) → First keys (8 * b) (8 * b + 8) k r → i ≡ b
-    → Kept keys b tops firsts (set tops i k) (set firsts i r)
-kept-is {b = b} {i} {k} {r} tops firsts f e =
-    record { key = k; run = r; first = f; tops_are = ap (λ (j : ℕ). set tops j k) e; firsts-are = ap (λ (j : ℕ). set firsts j r) e }
-
 module _ {keys tops firsts tops' firsts' : List ℕ} {b : ℕ} (k : Kept keys b tops firsts tops' firsts') (room-tops : length tops ≡ 8) (room-firsts : length firsts ≡ 8) where
   long-tops : length tops' ≡ 8
   long-tops = ap length k.tops_are ∙ simp length-set room-tops
@@ -122,20 +39,6 @@ module _ {keys tops firsts tops' firsts' : List ℕ} {b : ℕ} (k : Kept keys b 
 
 pub leading-none : {keys tops firsts : List ℕ} → length keys ≡ 64 → length tops ≡ 8 → length firsts ≡ 8 → Leading keys tops firsts 0
 leading-none a b c = record { room = a; room-tops = b; room-firsts = c; are = λ i l. absurd (omega arith) }
-
-pub leading-more : {keys tops firsts tops' firsts' : List ℕ} {b : ℕ} → Leading keys tops firsts b → b < 8 → Kept keys b tops firsts tops' firsts'
-    → Leading keys tops' firsts' (b + 1)
-leading-more {keys} {tops} {firsts} {tops'} {firsts'} {b} w l k =
-    subst (Leading keys tops' firsts') (sym (add-one b))
-    (record {
-      room = w.room;
-      room-tops = long-tops k w.room-tops w.room-firsts;
-      room-firsts = long-firsts k w.room-tops w.room-firsts;
-      are = upto (λ c m. kept-other k w.room-tops w.room-firsts c (λ q. omega arith) (w.are c m)) (kept_same k w.room-tops w.room-firsts l);
-    })
-
-pub leading-all : {keys tops firsts : List ℕ} {b : ℕ} → Leading keys tops firsts b → 8 ≤ b → Leading keys tops firsts 8
-leading-all w l = record { room = w.room; room-tops = w.room-tops; room-firsts = w.room-firsts; are = λ c m. w.are c (omega arith) }
 
 -- a number outside a stretch doesn't matter to it
 first-set : {keys : List ℕ} {a e k r i : ℕ} (x : ℕ) → First keys a e k r → ((j : ℕ) → a ≤ j → j < e → j ≡ i → ⊥) → First (set keys i x) a e k r
@@ -164,26 +67,6 @@ leading-set {keys} {tops} {firsts} {tops'} {firsts'} {r} {i} {b} x w e l d k =
 
     other : (c : ℕ) → c < 8 → (c ≡ b → ⊥) → First (set keys i x) (8 * c) (8 * c + 8) (get_or tops' c 0) (get_or firsts' c 0)
     other c m n = kept-other k w.room-tops w.room-firsts c n (first-set x (w.are c m) (λ j p q s. n (omega arith)))
-
--- the runs below r are at their end
-pub record Ended (counts places : List ℕ) (h r : ℕ) : Type 0 where
-  pub most : r ≤ h
-  pub before : (i : ℕ) → i < r → get_or counts i 0 ≤ get_or places i 0
-
-pub ended-none : (counts places : List ℕ) {h : ℕ} → Ended counts places h 0
-ended-none counts places = record { most = omega arith; before = λ i l. absurd (omega arith) }
-
-pub ended-more : {counts places : List ℕ} {h r i : ℕ} → Ended counts places h r → r < h → i ≡ r → get_or counts i 0 ≤ get_or places i 0 → Ended counts places h (r + 1)
-ended-more {counts} {places} {h} {r} {i} w l e k =
-    let here : get_or counts r 0 ≤ get_or places r 0 = subst (λ (j : ℕ). get_or counts j 0 ≤ get_or places j 0) e k in
-    subst (Ended counts places h) (sym (add-one r)) (record { most = l; before = upto w.before here })
-
-pub left_here : {counts places : List ℕ} {h r i : ℕ} → Ended counts places h r → i ≡ r → get_or places i 0 < get_or counts i 0 → FirstLeft counts places h r
-left_here {counts} {places} w e k =
-    record { most = w.most; left = λ l. subst (λ (j : ℕ). get_or places j 0 < get_or counts j 0) e k; before = w.before }
-
-pub left-none : {counts places : List ℕ} {h r : ℕ} → Ended counts places h r → h ≤ r → FirstLeft counts places h r
-left-none w l = record { most = w.most; left = λ k. absurd (omega arith); before = w.before }
 
 -- the keys after the next ones
 pub nexts-none : (t places : List ℕ) {nexts : List ℕ} → length nexts ≡ 64 → Nexts t places nexts 0
@@ -228,13 +111,24 @@ pub raised : (places : List ℕ) {i r : ℕ} → i ≡ r → set places i (get_o
 unfolding raise
 raised places e = ap (λ (j : ℕ). set places j (get_or places j 0 + 1)) e
 
+-- what the frame says of the runs
+pub tray-reading : (tray : Tray) {places : List ℕ} → length places ≡ 63 → Reading tray.bytes.now tray.counts tray.starts places
+tray-reading tray e =
+    let f = tray.frame in
+    record { at = f.at; few = f.at.few; room-counts = f.room; room-places = e; counts-are = f.counts }
+
 -- one record of run r taken: what is kept of the runs moves along
-pub moved : {t counts starts places keys nexts tops firsts tops' firsts' : List ℕ} {r i b p k : ℕ} → Heading t counts starts places keys nexts tops firsts
-    → r < run_count t → i ≡ r → b ≡ r / 8 → p ≡ get_or places i 0 + 1 → k ≡ key_or (run_bytes t r) (count_of t r) (p + 1)
-    → Kept (set keys i (get_or nexts i 0)) b tops firsts tops' firsts'
-    → Heading t counts starts (set places i p) (set keys i (get_or nexts i 0)) (set nexts i k) tops' firsts'
+pub moved : {tray : Tray} {places : List ℕ} {heads heads' : Heads} {r i b p k : ℕ} → Heading tray places heads
+    → r < run_count tray.bytes.now → i ≡ r → b ≡ r / 8 → p ≡ get_or places i 0 + 1
+    → k ≡ key_or (run_bytes tray.bytes.now r) (count_of tray.bytes.now r) (p + 1)
+    → heads'.keys ≡ set heads.keys i (get_or heads.nexts i 0) → heads'.nexts ≡ set heads.nexts i k
+    → Kept (set heads.keys i (get_or heads.nexts i 0)) b heads.tops heads.firsts heads'.tops heads'.firsts
+    → Heading tray (set places i p) heads'
 unfolding next_key
-moved {t} {counts} {starts} {places} {keys} {nexts} {r = r} {i} {b} {p} {k} w l e d pe ke kept =
+moved {tray} {places} {heads} {heads'} {r = r} {i} {b} {p} {k} w l e d pe ke same-keys same-nexts kept =
+    let t = tray.bytes.now in
+    let keys = heads.keys in
+    let nexts = heads.nexts in
     let few : run_count t ≤ 63 = w.caching.reading.few in
     let places-long : length places ≡ 63 = w.caching.reading.room-places in
     let keys-long : length keys ≡ 64 = w.caching.padded.room in
@@ -246,7 +140,7 @@ moved {t} {counts} {starts} {places} {keys} {nexts} {r = r} {i} {b} {p} {k} w l 
     let next-r : get_or (set nexts i k) r 0 ≡ k = ap (λ (j : ℕ). get_or (set nexts i k) j 0) (sym e) ∙ get_or-set_same nexts i k 0 (omega arith) in
     let place_other : (j : ℕ) → (j ≡ r → ⊥) → get_or (set places i p) j 0 ≡ get_or places j 0 = λ j n. get_or-set_other places i j p 0 (λ q. n (q ∙ e)) in
     record {
-      caching = record {
+      caching = subst (λ (s : List ℕ). Caching t tray.counts tray.starts (set places i p) s) (sym same-keys) (record {
         reading = record {
           at = w.caching.reading.at;
           few = few;
@@ -265,8 +159,8 @@ moved {t} {counts} {starts} {places} {keys} {nexts} {r = r} {i} {b} {p} {k} w l 
             (key-r ∙ w.nexts-are.are r l ∙ ap (key_or (run_bytes t r) (count_of t r)) (omega arith)))
             (λ f. let n : j ≡ r → ⊥ = eqb-false _ _ f in
             get_or-set_other keys i j (get_or nexts i 0) 0 (λ q. n (q ∙ e)) ∙ w.caching.keys-are j m ∙ ap (key_or (run_bytes t j) (count_of t j)) (sym (place_other j n)));
-      };
-      nexts-are = record {
+      });
+      nexts-are = subst (λ (s : List ℕ). Nexts t (set places i p) s (run_count t)) (sym same-nexts) (record {
         room = simp length-set nexts-long;
         are = λ j m. cases (eqb j r)
             (λ y. let q : j ≡ r = eqb-true _ _ y in
@@ -274,6 +168,6 @@ moved {t} {counts} {starts} {places} {keys} {nexts} {r = r} {i} {b} {p} {k} w l 
             (next-r ∙ ke ∙ ap (key_or (run_bytes t r) (count_of t r)) (omega arith)))
             (λ f. let n : j ≡ r → ⊥ = eqb-false _ _ f in
             get_or-set_other nexts i j k 0 (λ q. n (q ∙ e)) ∙ w.nexts-are.are j m ∙ ap (λ (x : ℕ). key_or (run_bytes t j) (count_of t j) (x + 1)) (sym (place_other j n)));
-      };
-      leading = leading-set (get_or nexts i 0) w.leading e (omega arith) d kept;
+      });
+      leading = subst (λ (s : List ℕ). Leading s heads'.tops heads'.firsts 8) (sym same-keys) (leading-set (get_or nexts i 0) w.leading e (omega arith) d kept);
     }

@@ -1,48 +1,48 @@
--- `next::calls::next` meets its contract.
-use mathlib.Core.Path.{sym, ◌∙◌}
-use Rattle.tray.proofs.FrameCode.{opened}
-use Rattle.index.specs.Layout.Code.{laid}
-use Rattle.answers.specs.Next.{refused_next, next_answer}
-use Rattle.answers.specs.Code.{frames-tray, frames-index, frames-fit}
+-- The frames decide first, then whether the cursor belongs, then the walk.
+use Rattle.std.specs.Prelude.{List, ℕ, Ok, Err}
+use Rattle.std.proofs.Common.{◌∙◌, sym, ap, ap₂, arith}
+use Rattle.std.proofs.lemmas.Result.{err_from_is_err_and}
+use Rattle.refusal.specs.declared.Refusal.TheVariants.{Cursor as NotBelonging}
+use Rattle.answers.specs.declared.Stand.TheVariants.{End}
+use Rattle.answers.specs.Code.{frames-fit, frames-refused}
+use Rattle.answers.specs.Next.{next_framed, next_answer}
+use Rattle.walk_cursor.specs.Tested.{belongs-low}
+use Rattle.next.specs.Next.{next-end}
+use Rattle.next.specs.Code.{told-end, next-on, next-off}
 use Rattle.next.proofs.calls.next.Goals as goal
 
-pub next_framed-requires : goal.next_framed-requires
-next_framed-requires c =
-    let index-frame = c.index_frame in
-    let if1 = c.if-f in
-    let tray-frame = c.tray_frame-f in record { opened = opened _ tray-frame.ensures if1.true; laid = laid _ _ (opened _ tray-frame.ensures if1.true).runs (sym c.in-Fits.is ∙ index-frame.ensures) }
-
-pub returns-in-Fits : goal.returns-in-Fits
+pub returns-in_err-indexed : goal.returns-in_err-indexed
 unfolding next_answer
-returns-in-Fits c =
-    let back = c in
-    let index-frame = back.index_frame in
-    let if1 = back.if-f in
-    let tray-frame = back.tray_frame-f in
-    let args = back.args in
-    frames-fit (refused_next args.from) _ tray-frame.ensures if1.true _ (sym c.in-Fits.is ∙ index-frame.ensures) c.next_framed.ensures
+returns-in_err-indexed c =
+    let p = err_from_is_err_and c.from_residual.result c.from_residual.ensures.1 in
+    rw (p.1, p.2) (sym (frames-refused Err _ _ _ c.in_err-indexed.ensures))
 
-pub returns-in-Wrong : goal.returns-in-Wrong
+pub returns-then-not-belongs : goal.returns-then-not-belongs
 unfolding next_answer
-returns-in-Wrong c =
-    let back = c in
-    let index-frame = back.index_frame in
-    let if1 = back.if-f in
-    let tray-frame = back.tray_frame-f in
-    let args = back.args in
-    frames-index
-    (refused_next args.from)
-    _
-    tray-frame.ensures
-    if1.true
-    _
-    (sym c.in-Wrong.is ∙ index-frame.ensures)
-    c.next_refused.ensures
+returns-then-not-belongs c =
+    let i = c.in_ok-indexed.ensures in
+    ap (λ (g : ℕ). Err (NotBelonging g)) c.from.ensures
+    ∙ next-off c.in_ok-indexed.indexed.walking c.args.from c.belongs.ensures c.if-not-belongs.true
+    ∙ ap₂ (λ (t x : List ℕ). next_framed t x c.args.from) i.1 i.2
+    ∙ sym (frames-fit Err _ _ _ i.0)
+
+pub next_from-requires : goal.next_from-requires
+next_from-requires c = (omega arith, belongs-low c.in_ok-indexed.indexed.walking c.args.from c.belongs.ensures c.if-not-belongs.false (omega arith))
+
+pub returns-then-g-indexed : goal.returns-then-g-indexed
+unfolding next_answer
+returns-then-g-indexed c =
+    let i = c.in_ok-indexed.ensures in
+    next-on c.in_ok-indexed.indexed.walking c.args.from c.belongs.ensures c.if-not-belongs.false c.next_from.ensures
+    ∙ ap₂ (λ (t x : List ℕ). next_framed t x c.args.from) i.1 i.2
+    ∙ sym (frames-fit Err _ _ _ i.0)
 
 pub returns : goal.returns
 unfolding next_answer
 returns c =
-    let if1 = c.if-f in
-    let tray-frame = c.tray_frame-f in
-    let args = c.args in
-    frames-tray (refused_next args.from) _ tray-frame.ensures _ if1.false c.next_refused-2.ensures
+    let i = c.in_ok-indexed.ensures in
+    let w = c.in_ok-indexed.indexed.walking in
+    next-on w c.args.from c.belongs.ensures c.if-not-belongs.false
+    (ap (λ k. Ok (End k)) c.end.ensures ∙ told-end w (next-end _ _ c.args.from w.index.count c.if-g-indexed.false))
+    ∙ ap₂ (λ (t x : List ℕ). next_framed t x c.args.from) i.1 i.2
+    ∙ sym (frames-fit Err _ _ _ i.0)

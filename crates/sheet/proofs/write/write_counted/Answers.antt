@@ -1,30 +1,13 @@
--- `sheet::write::write_counted` meets its contract.
+-- Nothing where there is too little room, and else what is remembered, or a second walk.
+use Rattle.std.proofs.Common.{refl, arith}
 use Rattle.sheet.specs.Write.{leaves-written, leaves-short, leaves-held}
-use lib.Seq.{length-take-le}
-use mathlib.Core.Path.{refl, sym}
-use native.Mathlib.Omega.{arith}
 use Rattle.sheet.proofs.write.write_counted.Goals as goal
 
-pub put_all-requires : goal.put_all-requires
-put_all-requires c =
-    let if2 = c.if-held-count in
-    let pre = c.requires in record { within = pre.held_in_bounds.1; k_in_bounds = (pre.held_in_bounds.0, omega (arith, if2.true)) }
+pub returns-then-room-k : goal.returns-then-room-k
+returns-then-room-k c = leaves-short _ _ _ _ _ c.if-room-k.true
 
 pub returns-then-held-count : goal.returns-then-held-count
-returns-then-held-count c =
-    let put_all = c.put_all in
-    let if2 = c.if-held-count in
-    let if1 = c.if-k-room in
-    leaves-held _ _ _ _ _ _ if2.true if1.true put_all.ensures
-
-pub slice_bounds-page_from-end-then-k-room : goal.slice_bounds-page_from-end-then-k-room
-slice_bounds-page_from-end-then-k-room c = sym (length-take-le _ _ (omega arith))
-
-pub returns-then-k-room : goal.returns-then-k-room
-returns-then-k-room c =
-    let page-from = c.page_from in
-    let page-from-out-last = c.page_from.new.out in
-    leaves-written _ _ _ _ _ _ _ page-from-out-last refl (omega arith) page-from.ensures
+returns-then-held-count c = leaves-held _ _ _ _ _ c.if-held-count.true (omega arith) c.put_all.ensures
 
 pub returns : goal.returns
-returns c = leaves-short _ _ _ _ _ _ c.if-k-room.false
+returns c = leaves-written _ _ _ _ _ c.page_from.result c.page_from.new.out refl (omega arith) c.page_from.ensures

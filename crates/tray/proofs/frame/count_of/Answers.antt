@@ -8,6 +8,6 @@ use Rattle.tray.proofs.frame.count_of.Goals as goal
 pub returns : goal.returns
 unfolding count_of
 returns c =
-    let usize-of-u8 = c.usize_of_u8 in
+    let usize-of-u8 = c.from in
     let args = c.args in
-    c.big2.ensures ∙ ap (λ (n : ℕ). be 2 args.t.now (4 + 2 * n)) usize-of-u8.ensures
+    c.read.ensures ∙ ap (λ (n : ℕ). be 2 args.t.now (4 + 2 * n)) usize-of-u8.ensures

@@ -6,18 +6,18 @@ use Rattle.tray.proofs.frame.header_fits.Goals as goal
 pub returns-then-t-lt4 : goal.returns-then-t-lt4
 returns-then-t-lt4 c = header-short _ (omega arith)
 
-pub overflow_mul-usize_of_u8 : goal.overflow_mul-usize_of_u8
-overflow_mul-usize_of_u8 c =
+pub overflow_mul-from : goal.overflow_mul-from
+overflow_mul-from c =
     let shared-slice-known2 = c.shared_slice_known-2-1 in
     omega (arith, shared-slice-known2.given 0)
 
-pub overflow_add-usize_of_u8 : goal.overflow_add-usize_of_u8
-overflow_add-usize_of_u8 c =
+pub overflow_add-from : goal.overflow_add-from
+overflow_add-from c =
     let shared-slice-known2 = c.shared_slice_known-2-1 in
     omega (arith, shared-slice-known2.given 0)
 
-pub returns-then-t-usize_of_u8 : goal.returns-then-t-usize_of_u8
-returns-then-t-usize_of_u8 c = header-short _ (omega arith)
+pub returns-then-t-from : goal.returns-then-t-from
+returns-then-t-from c = header-short _ (omega arith)
 
 pub returns-then-h-lt1 : goal.returns-then-h-lt1
 returns-then-h-lt1 c = header-none _ (omega arith) c.if-h-lt1.true

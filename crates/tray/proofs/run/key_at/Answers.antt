@@ -7,6 +7,6 @@ use Rattle.tray.proofs.run.key_at.Goals as goal
 pub returns : goal.returns
 unfolding record_from
 returns c =
-    let usize-of-u16 = c.usize_of_u16 in
+    let usize-of-u16 = c.from in
     let args = c.args in
-    c.big8.ensures ∙ ap (λ (n : ℕ). (record_from args.run.now (25 * n)).key) usize-of-u16.ensures
+    c.read.ensures ∙ ap (λ (n : ℕ). (record_from args.run.now (25 * n)).key) usize-of-u16.ensures

@@ -7,6 +7,6 @@ use Rattle.tray.proofs.run.kind_at.Goals as goal
 pub returns : goal.returns
 unfolding record_from
 returns c =
-    let usize-of-u16 = c.usize_of_u16 in
+    let usize-of-u16 = c.from in
     let args = c.args in
     ap (λ (n : ℕ). (record_from args.run.now (25 * n)).kind) usize-of-u16.ensures

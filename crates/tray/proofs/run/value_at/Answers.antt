@@ -6,10 +6,10 @@ use Rattle.tray.proofs.run.value_at.Goals as goal
 
 pub returns : goal.returns
 returns c =
-    let put82 = c.put8-2 in
-    let big82 = c.big8-2 in
+    let put82 = c.write-2 in
+    let big82 = c.read-2 in
     let back = c in
-    let put8 = back.put8 in
-    let big8 = back.big8 in
-    let usize-of-u16 = back.usize_of_u16 in
-    value-is _ _ _ refl (omega (arith, usize-of-u16.ensures)) big8.ensures big82.ensures (omega arith) put8.ensures put82.ensures
+    let write = back.write in
+    let read = back.read in
+    let usize-of-u16 = back.from in
+    value-is _ _ _ refl (omega (arith, usize-of-u16.ensures)) read.ensures big82.ensures (omega arith) write.ensures put82.ensures

@@ -1,16 +1,13 @@
--- `tray_check::run::kind_right` meets its contract: each way out is a case of the kind byte.
+-- Each arm is a case of the kind byte.
+use Rattle.std.proofs.Common.{arith}
 use Rattle.tray.proofs.RunCode.{kind-live, kind-gone, kind-other}
 use Rattle.tray_check.proofs.run.kind_right.Goals as goal
 
-pub returns-then-kind-eq0 : goal.returns-then-kind-eq0
-returns-then-kind-eq0 c = kind-live _ _ c.if-kind-eq0.true
+pub returns-in-0 : goal.returns-in-0
+returns-in-0 c = kind-live _ _ c.in-0.is
 
-pub returns-then-kind-eq1 : goal.returns-then-kind-eq1
-returns-then-kind-eq1 c =
-    let if2 = c.if-kind-eq1 in
-    kind-gone _ _ if2.true c.value_is_zero.ensures
+pub returns-in-1 : goal.returns-in-1
+returns-in-1 c = kind-gone _ _ c.in-1.is c.value_is_zero.ensures
 
-pub returns : goal.returns
-returns c =
-    let if1 = c.if-kind-eq0 in
-    kind-other _ _ if1.false c.if-kind-eq1.false
+pub returns-in_default : goal.returns-in_default
+returns-in_default c = kind-other _ _ (λ z. omega (arith, z)) (λ z. omega (arith, z))

@@ -1,48 +1,20 @@
--- `walk::cursor::load` meets its contract. Invariant: the runs from r on are loaded, and those that the tray has not are 0. Measure: r.
-use mathlib.Core.Path.{refl}
-use Rattle.walk.specs.Code.Load.{loading-none, loading-more, loading-end}
-use native.Mathlib.Omega.{arith}
+use Rattle.std.proofs.Common.{◌≡◌, arith, subst}
+use Rattle.walk.specs.Code.Load.{Loading, loading-none, loading-run, loading-rest, loading-end}
 use Rattle.walk.proofs.cursor.load.Goals as goal
 
 pub loop-r-init : goal.loop-r-init
-loop-r-init c =
-    let pre = c.requires in
-    loading-none c.usize_of_u8-r.ensures pre.1
-
-pub overflow_mul-r : goal.overflow_mul-r
-overflow_mul-r c =
-    let loop = c.loop-r in
-    omega (arith, loop.invariant.high)
-
-pub overflow_add-at-in-loop-r : goal.overflow_add-at-in-loop-r
-overflow_add-at-in-loop-r c =
-    let loop = c.loop-r in
-    omega (arith, loop.invariant.high)
-
-pub big2-requires : goal.big2-requires
-big2-requires c =
-    let loop = c.loop-r in
-    omega (arith, loop.invariant.high)
-
-pub offset_bounds-places-r : goal.offset_bounds-places-r
-offset_bounds-places-r c =
-    let loop = c.loop-r in
-    omega (arith, loop.invariant.high)
-
-pub bounds-places-r : goal.bounds-places-r
-bounds-places-r c =
-    let loop = c.loop-r in
-    omega (arith, loop.invariant.high)
+loop-r-init c = loading-none c.told-places
 
 pub loop-r-preserved : goal.loop-r-preserved
-loop-r-preserved c =
-    let loop-test = c.loop-r-test in
-    let loop = c.loop-r in
-    let pre = c.requires in
-    loading-more loop.invariant loop-test.true refl pre.1 c.big2.ensures
+loop-r-preserved c = loading-run c.loop-r.invariant (omega (arith, c.loop-r-test.true, c.from-runs.ensures)) c.requires.1 c.read.ensures
+
+pub loop-i-init : goal.loop-i-init
+loop-i-init c =
+    let end : c.loop-r.r ≡ c.from-runs.result = omega (arith, c.loop-r-test.false) in
+    (subst (Loading _ _ _ _) end c.loop-r.invariant, c.from-runs.ensures)
+
+pub loop-i-preserved : goal.loop-i-preserved
+loop-i-preserved c = (loading-rest c.loop-i.invariant.0 (omega (arith, c.loop-i.invariant.1)) c.loop-i-test.true, c.loop-i.invariant.1)
 
 pub returns : goal.returns
-returns c =
-    let loop = c.loop-r in
-    let pre = c.requires in
-    loading-end loop.invariant c.loop-r-test.false pre.1
+returns c = loading-end c.loop-i.invariant.0 c.loop-i-test.false

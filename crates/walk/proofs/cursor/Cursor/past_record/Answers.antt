@@ -4,5 +4,5 @@ use Rattle.walk.proofs.cursor.Cursor.past_record.Goals as goal
 
 pub returns : goal.returns
 returns c =
-    let usize-of-u8 = c.usize_of_u8-i in
+    let usize-of-u8 = c.from-i in
     moved-record _ usize-of-u8.ensures

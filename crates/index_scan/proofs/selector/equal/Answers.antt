@@ -1,9 +1,0 @@
--- `index_scan::selector::equal` meets its contract: the test that was taken decides.
-use borrow.Author.Tests.{eq-eqb, ne_eqb}
-use Rattle.index_scan.proofs.selector.equal.Goals as goal
-
-pub returns-then-a-b : goal.returns-then-a-b
-returns-then-a-b c = simp (eq-eqb _ _ c.if-a-b.true)
-
-pub returns-else-a-b : goal.returns-else-a-b
-returns-else-a-b c = simp (ne_eqb _ _ c.if-a-b.false)

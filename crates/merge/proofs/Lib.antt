@@ -1,0 +1,2 @@
+-- The laws of a merge of one run.
+pub mod One

@@ -1,0 +1,2 @@
+-- What the merge of one run promises.
+pub mod One

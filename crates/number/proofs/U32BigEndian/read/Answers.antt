@@ -1,0 +1,8 @@
+-- The number of 4 bytes: `be 4` written out.
+use Rattle.std.proofs.Common.{arith, add-zero}
+use Rattle.number.specs.Big.{be}
+use Rattle.number.proofs.U32BigEndian.read.Goals as goal
+
+pub returns : goal.returns
+unfolding be
+returns c = simp add-zero (omega arith)

@@ -1,0 +1,3 @@
+-- What the calls share.
+-- the tray and the index that were opened
+pub mod Asked

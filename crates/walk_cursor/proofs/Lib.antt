@@ -1,0 +1,3 @@
+-- Laws used in proofs.
+-- a stretch of a list
+pub mod Part
