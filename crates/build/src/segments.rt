@@ -11,8 +11,16 @@ use index::SegmentNo;
 use index::frame::segment_at;
 use tray::Tray;
 
-// The next segment, at place a of the output where that has room for it, and else into a stretch that is let go: how many records it has.
-fn put_segment(tray: &Tray, d: u8, places: &mut [u16; 63], out: &mut [u8], a: usize) -> usize
+// The next segment, at place a of the output where that has room for it, and else into a stretch that is let go: how many records it has. The stretch is
+// lent: made here, it would be cleared for each segment.
+fn put_segment(
+    tray: &Tray,
+    d: u8,
+    places: &mut [u16; 63],
+    stretch: &mut [u8; 262],
+    out: &mut [u8],
+    a: usize,
+) -> usize
     requires { (d ≤ 128) × (a ≤ 4398046511104) }
     ensures { Wrote tray.now d places.old out.old a places.new out.new result }
 {
@@ -20,7 +28,6 @@ fn put_segment(tray: &Tray, d: u8, places: &mut [u16; 63], out: &mut [u8], a: us
     if a + w <= out.len() {
         return write_segment(tray, d, places, &mut out[a..a + w]);
     }
-    let mut stretch = [0u8; 262];
     write_segment(tray, d, places, &mut stretch[..w])
 }
 
@@ -33,12 +40,13 @@ pub fn write_segments(tray: &Tray, d: u8, n: u64, out: &mut [u8]) -> u32
         → out.new ≡ put out.old 8 (segments_bytes d (runs_of tray.now.bytes.now) [] (cuts d (runs_of tray.now.bytes.now))) }
 {
     let mut places = [0u16; 63];
+    let mut stretch = [0u8; 262];
     let mut left = n;
     let mut g: u32 = 0;
     // Not a range: how many segments there are shows only as they are cut.
     while 0 < left {
         let a = segment_at(SegmentNo(g), tray.runs, d);
-        left -= put_segment(tray, d, &mut places, out, a) as u64;
+        left -= put_segment(tray, d, &mut places, &mut stretch, out, a) as u64;
         g += 1;
     }
     g

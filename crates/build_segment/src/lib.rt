@@ -52,6 +52,17 @@ fn put_segment<M: Merging>(
     end - from
 }
 
+// A segment of several runs, with what a merge keeps of them. A function of its own: one that has these numbers clears them where it begins, and a tray
+// of one run has no use for them.
+fn write_merged(tray: &Tray, d: u8, places: &mut [u16; 63], seg: &mut [u8]) -> usize
+    requires { length seg.old ≡ 8 + 2 * tray.now.runs + d }
+    ensures { Segmented tray.now.bytes.now tray.now.runs d places.old seg.old places.new seg.new result }
+{
+    let mut heads = Heads::new();
+    fill_heads(tray, places, &mut heads);
+    put_segment(tray, &mut heads, d, places, seg)
+}
+
 // The next segment, into its own stretch of the output: how many records it has.
 pub fn write_segment(tray: &Tray, d: u8, places: &mut [u16; 63], seg: &mut [u8]) -> usize
     requires { length seg.old ≡ 8 + 2 * tray.now.runs + d }
@@ -60,7 +71,5 @@ pub fn write_segment(tray: &Tray, d: u8, places: &mut [u16; 63], seg: &mut [u8])
     if tray.runs == 1 {
         return put_segment(tray, &mut One::of(tray), d, places, seg);
     }
-    let mut heads = Heads::new();
-    fill_heads(tray, places, &mut heads);
-    put_segment(tray, &mut heads, d, places, seg)
+    write_merged(tray, d, places, seg)
 }

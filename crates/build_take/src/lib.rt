@@ -10,9 +10,9 @@ use tray::{RunNo, Tray};
 
 // Where records end, and the key of the last one.
 #[derive(Clone, Copy)]
-struct Reach {
-    at: usize,
-    last: u64,
+pub struct Reach {
+    pub at: usize,
+    pub last: u64,
 }
 
 // Record after record written from a place on, as long as there is one and it ends by `to`.

@@ -20,7 +20,8 @@ fn end_input(carried: &mut Carried)
     ensures { filled carried.new.drawer.output ≡ [] }
 {
     finish(carried);
-    write_out(&mut carried.drawer.output);
+    let output = &mut carried.drawer.output;
+    write_out(output);
 }
 
 // One read: how many bytes it brought, which are none at the end of the input, or none where it failed.

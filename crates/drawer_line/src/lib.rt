@@ -20,17 +20,17 @@ fn formed(line: &[u8]) -> bool
     1 <= n && n % 2 == 0 && n <= 32770 && all_digits(line)
 }
 
-// A bad line changes nothing. Its answer has kind 127, so that it begins with ff, and the line's number.
-fn put_bad(drawer: &mut Drawer)
+// A bad line changes nothing. Its answer is ff0d and the line's number.
+fn put_bad<const N: usize>(drawer: &mut Drawer<N>)
     requires { Roomy drawer.old }
     ensures { Turned (saying drawer.old (bad_answer drawer.old.number)) drawer.old drawer.new }
 {
-    say(127, 13, u64::from(drawer.number), &[], &mut drawer.output);
+    say(0xff, 13, u64::from(drawer.number), &[], &mut drawer.output);
 }
 
 // A frame by its kind. One of unknown kind, or of wrong length for 02 or 03, is as bad as a line that spells none. Slice patterns are no plainer here:
 // they test each length anew, and a proof has to go through all of these tests.
-fn answer_frame(frame: &[u8], drawer: &mut Drawer)
+fn answer_frame<const N: usize>(frame: &[u8], drawer: &mut Drawer<N>)
     requires room { Roomy drawer.old }
     requires frame_nonzero { 1 ≤ length frame.now }
     requires frame_bound { length frame.now ≤ 16385 }
@@ -50,7 +50,7 @@ fn answer_frame(frame: &[u8], drawer: &mut Drawer)
 }
 
 // What a line does and says. `frame` is for the work alone.
-pub fn answer_line(line: &[u8], frame: &mut [u8; 16385], drawer: &mut Drawer)
+pub fn answer_line<const N: usize>(line: &[u8], frame: &mut [u8; 16385], drawer: &mut Drawer<N>)
     requires { Roomy drawer.old }
     ensures { Turned (turn_in drawer.old line.now) drawer.old drawer.new }
 {

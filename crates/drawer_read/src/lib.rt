@@ -10,7 +10,7 @@ use drawer_line::answer_line;
 use drawer_spec::{Carried, Drawer};
 
 // The turn of a line that has ended, and the number of the next one.
-fn answer(line: &[u8], frame: &mut [u8; 16385], drawer: &mut Drawer)
+fn answer<const N: usize>(line: &[u8], frame: &mut [u8; 16385], drawer: &mut Drawer<N>)
     requires { Roomy drawer.old }
     ensures { Answers line.now drawer.old drawer.new }
 {

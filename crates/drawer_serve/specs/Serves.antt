@@ -10,7 +10,7 @@ use Rattle.drawer_spec.specs.Feed.{Progress, feed}
 use Rattle.drawer_spec.specs.Feed.Code.{Stands}
 
 -- room made in a drawer: what stood in the output stands there still, or all of it is written
-pub record Room (before after : Drawer) : Type 0 where
+pub record Room {n : ℕ} (before after : Drawer n) : Type 0 where
   pub tray : filled after.tray ≡ filled before.tray
   pub index : filled after.index ≡ filled before.index
   pub number : after.number ≡ before.number

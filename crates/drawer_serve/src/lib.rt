@@ -8,13 +8,13 @@ ghost use Rattle.drawer_spec.specs.Turns.{Roomy};
 ghost use Rattle.drawer_serve.specs.Serves.{Room, Serves};
 
 use drawer_read::take_lines;
-use drawer_spec::{Carried, Drawer, Output};
+use drawer_spec::{Carried, Drawer, Filled};
 
 // The standard output.
 pub const STDOUT: i32 = 1;
 
-// Writes what the output holds, all of it: whether that went well.
-pub fn write_out(output: &mut Output) -> bool
+// Writes what an output holds, all of it: whether that went well.
+pub fn write_out<const N: usize>(output: &mut Filled<N>) -> bool
     ensures { filled output.new ≡ [] }
 {
     let fine = io::write_all(STDOUT, output.as_slice());
@@ -23,7 +23,7 @@ pub fn write_out(output: &mut Output) -> bool
 }
 
 // Writes the output where it has no room for one more answer line, and nothing else in the drawer changes: whether there is more to do.
-fn make_room(drawer: &mut Drawer) -> bool
+fn make_room(drawer: &mut Drawer<262144>) -> bool
     ensures { Room drawer.old drawer.new }
 {
     drawer.has_room() || write_out(&mut drawer.output)

@@ -10,6 +10,7 @@ use Rattle.std.proofs.Math.ListN.{length}
 use Rattle.drawer_spec.specs.declared.Drawer.{Drawer}
 use Rattle.drawer_spec.specs.declared.Carried.{Carried}
 use Rattle.drawer_spec.specs.Filled.{filled, length-filled}
+use Rattle.drawer_spec.specs.Turns.{output_size}
 use Rattle.drawer_spec.specs.Feed.{Progress, ended, finished}
 use Rattle.drawer_spec.specs.Feed.Code.{gather_size, none-gathered, Answers, Finishes}
 
@@ -29,7 +30,8 @@ module _ (c : Carried) where
   pub finishes-none : c.line.used ≡ 0 → Finishes c c.drawer
   finishes-none e p s = rw (finished-none p (none-gathered c p e s.gathers)) s.keeps
 
-  pub finishes-line : {line : List ℕ} {after : Drawer} → (c.line.used ≡ 0 → ⊥) → line ≡ filled c.line → Answers line c.drawer after → Finishes c after
+  pub finishes-line : {line : List ℕ} {after : Drawer output_size} → (c.line.used ≡ 0 → ⊥) → line ≡ filled c.line → Answers line c.drawer after
+      → Finishes c after
   finishes-line {line} some is a p s =
       let there : p.line ≡ [] → ⊥ = λ e. some (sym (length-filled c.line) ∙ ap length (s.gathers ∙ ap (take gather_size) e)) in
       let cut : take gather_size p.line ≡ take gather_size line =

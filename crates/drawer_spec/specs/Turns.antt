@@ -1,12 +1,13 @@
 -- What the code promises of a line, and what its ways out need.
---     Roomy, Turned          one more answer line has room; a turn has been taken
+--     Roomy, roomy-last      one more answer line has room, and when so in the program's output
+--     Turned                 a turn has been taken
 --     heard, turn-heard, turn-ignored     what a frame does, known or not; a line is heard where it is well formed
 --     formed-known           what a well formed line has
 --     heard-.., wrong-..     what a frame of each kind does
 --     tray-kept .. said-only, looked, listed     each way out of a kind of frame
 --     turned-.., bad-.., line-..     each way out of `answer_frame`, and of `answer_line`
 use Rattle.refusal.specs.declared.Refusal.{Refusal}
-use Rattle.std.specs.Prelude.{◌≡◌, ℕ, ◌+◌, ◌-◌, ◌*◌, ◌/◌, ◌%◌, ◌≤◌, cond, List, [], ◌++◌, length, take, drop, eqb, leb, Ok, Err, Result}
+use Rattle.std.specs.Prelude.{◌↔◌, ◌≡◌, ℕ, ◌+◌, ◌-◌, ◌*◌, ◌/◌, ◌%◌, ◌≤◌, cond, List, [], ◌++◌, length, take, drop, eqb, leb, Ok, Err, Result}
 use Rattle.std.proofs.Common.{sym, ap, ap₂, ◌∙◌, subst, arith, zero-add, length-drop, take_all}
 use Rattle.std.proofs.Math.Seq.{get_or-drop}
 use Rattle.number.specs.Big.{put}
@@ -26,29 +27,33 @@ use Rattle.walk.specs.Reads.Page.{listing}
 use Rattle.drawer_spec.specs.declared.Drawer.{Drawer}
 use Rattle.hexadecimal.specs.Hex.{all_digits, bytes_in}
 use Rattle.drawer_spec.specs.Filled.{filled}
-use Rattle.drawer_spec.specs.Line.{room_size, Turn, answer, refusal, bad_answer, after_tray, after_build, after_get, after_sheet, formed, known, frame_turn, turn, answer_line}
+use Rattle.drawer_spec.specs.Line.{room_size, line_size, Turn, answer, refusal, bad_answer, after_tray, after_build, after_get, after_sheet}
+use Rattle.drawer_spec.specs.Line.{formed, known, frame_turn, turn, answer_line}
 use Rattle.drawer_spec.specs.Line.Code.{index-front, sheet-front}
 
--- the output that is filled before it is written, and how far, so that one more answer line has room
+-- one more answer line has room; no invariant of a drawer, since after an answer it need not hold
+abbrev pub Roomy : {n : ℕ} → Drawer n → Type 0
+Roomy {n} d = d.output.used + line_size ≤ n
+
+-- the program's output, and how far it may be filled so that one more answer line has room
 abbrev pub output_size : ℕ
 output_size = 262144
 
 abbrev pub last_room : ℕ
 last_room = 196595
 
--- one more answer line has room; no invariant of a drawer, since after an answer it need not hold
-abbrev pub Roomy : Drawer → Type 0
-Roomy d = d.output.used ≤ last_room
+pub roomy-last : (d : Drawer output_size) → Roomy d ↔ (d.output.used ≤ last_room)
+roomy-last d = (λ room. omega (arith, room), λ low. omega (arith, low))
 
 -- a turn has been taken: its tray and index are kept, and its answer line stands behind what was said
-pub record Turned (u : Turn) (before after : Drawer) : Type 0 where
+pub record Turned {n : ℕ} (u : Turn) (before after : Drawer n) : Type 0 where
   pub tray : filled after.tray ≡ u.tray
   pub index : filled after.index ≡ u.index
   pub number : after.number ≡ before.number
   pub said : filled after.output ≡ filled before.output ++ answer_line u.says
 
 -- nothing kept is changed
-abbrev pub saying : Drawer → List ℕ → Turn
+abbrev pub saying : {n : ℕ} → Drawer n → List ℕ → Turn
 saying d says = record { tray = filled d.tray; index = filled d.index; says = says }
 
 -- what 04 says
@@ -64,10 +69,10 @@ unfoldable pub heard : List ℕ → List ℕ → ℕ → List ℕ → Turn
 heard t x n frame = cond (known frame) (frame_turn t x frame) (ignored t x n)
 
 -- what a frame and a line do in a drawer
-abbrev pub heard_in : Drawer → List ℕ → Turn
+abbrev pub heard_in : {n : ℕ} → Drawer n → List ℕ → Turn
 heard_in d frame = heard (filled d.tray) (filled d.index) d.number frame
 
-abbrev pub turn_in : Drawer → List ℕ → Turn
+abbrev pub turn_in : {n : ℕ} → Drawer n → List ℕ → Turn
 turn_in d line = turn (filled d.tray) (filled d.index) d.number line
 
 -- a line that is well formed is heard, and any other is ignored
@@ -143,7 +148,7 @@ module _ (t x : List ℕ) (n : ℕ) (frame : List ℕ) where
       rw (ne_eqb kind 1 a, ne_eqb kind 2 b, ne_eqb kind 3 c, ne_eqb kind 4 d)
 
 -- each way out
-module _ {d d₁ : Drawer} (number : d₁.number ≡ d.number) where
+module _ {m : ℕ} {d d₁ : Drawer m} (number : d₁.number ≡ d.number) where
   pub tray-kept : (bytes : List ℕ) {a : Result ℕ Refusal} {n : ℕ} → a ≡ check_tray_answer bytes → a ≡ Ok n → filled d₁.tray ≡ bytes
       → filled d₁.index ≡ [] → filled d₁.output ≡ filled d.output ++ answer_line (answer 1 0 n [])
       → Turned (after_tray bytes (check_tray_answer bytes)) d d₁
@@ -193,7 +198,7 @@ module _ {d d₁ : Drawer} (number : d₁.number ≡ d.number) where
         record { tray = same_tray; index = same; number = number; said = s ∙ ap (λ (l : List ℕ). filled d.output ++ answer_line l) e }
 
 -- what 03 and 04 say
-module _ (d : Drawer) {t x : List ℕ} (at : t ≡ filled d.tray) (on : x ≡ filled d.index) where
+module _ {m : ℕ} (d : Drawer m) {t x : List ℕ} (at : t ≡ filled d.tray) (on : x ≡ filled d.index) where
   pub looked : (key : List ℕ) {g a : Value} → g ≡ get_answer t x key → g ≡ a → after_get a ≡ after_get (get_answer (filled d.tray) (filled d.index) key)
   looked key is e = ap after_get (sym e ∙ is ∙ ap₂ (λ (t x : List ℕ). get_answer t x key) at on)
 
@@ -223,7 +228,7 @@ behind-long : (frame : List ℕ) → length (behind frame) ≡ length frame - 1
 behind-long frame = ap length (behind-is frame) ∙ length-drop 1 frame
 
 -- each way out by kind
-module _ {d d₁ : Drawer} (frame : List ℕ) (some : 1 ≤ length frame) where
+module _ {m : ℕ} {d d₁ : Drawer m} (frame : List ℕ) (some : 1 ≤ length frame) where
   instead : {u v : Turn} → v ≡ u → Turned u d d₁ → Turned v d d₁
   instead e h = subst (λ (w : Turn). Turned w d d₁) (sym e) h
 
@@ -260,7 +265,7 @@ module _ {d d₁ : Drawer} (frame : List ℕ) (some : 1 ≤ length frame) where
     bad-kind a b c e = as_bad (unknown (filled d.tray) (filled d.index) d.number frame a b c e)
 
 -- a line, by whether it is well formed
-module _ {d d₁ : Drawer} (line : List ℕ) where
+module _ {m : ℕ} {d d₁ : Drawer m} (line : List ℕ) where
   pub line-heard : {frame : List ℕ} → formed line ≡ true → frame ≡ bytes_in line → Turned (heard_in d frame) d d₁ → Turned (turn_in d line) d d₁
   line-heard e is h =
       subst (λ (u : Turn). Turned u d d₁) (ap (heard_in d) is ∙ sym (turn-heard (filled d.tray) (filled d.index) d.number line e)) h
@@ -273,6 +278,7 @@ module _ {d d₁ : Drawer} (line : List ℕ) where
 pub record Decoded (line frame : List ℕ) : Type 0 where
   pub is : take (length line / 2) frame ≡ bytes_in line
   pub some : 1 ≤ length (take (length line / 2) frame)
+  pub short : length (take (length line / 2) frame) ≤ 16385
 
 pub decoded : (line frame : List ℕ) {frame₁ : List ℕ} → formed line ≡ true → length frame ≡ 16385 → frame₁ ≡ put frame 0 (bytes_in line) → Decoded line frame₁
 decoded line frame {frame₁} e room is =
@@ -281,4 +287,5 @@ decoded line frame {frame₁} e room is =
     let all : 0 + length bytes ≡ length line / 2 = zero-add (length bytes) ∙ length-bytes_in line in
     let front : take (0 + length bytes) frame₁ ≡ bytes = ap (take (0 + length bytes)) is ∙ take_put frame 0 bytes (omega arith) in
     let spelt : take (length line / 2) frame₁ ≡ bytes = rw all at front in
-    record { is = spelt; some = omega (arith, ap length spelt, length-bytes_in line, f.some, f.even) }
+    let long = ap length spelt ∙ length-bytes_in line in
+    record { is = spelt; some = omega (arith, long, f.some, f.even); short = omega (arith, long, f.short) }

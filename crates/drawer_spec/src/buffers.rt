@@ -51,11 +51,11 @@ impl<const N: usize> Filled<N> {
     }
 }
 
-impl Drawer {
-    // Whether one more answer line has room in the output.
+impl<const N: usize> Drawer<N> {
+    // Whether one more answer line has room in the output: 65,549 bytes.
     pub fn has_room(&self) -> bool
         ensures { IsTrue result ↔ Roomy self.now }
     {
-        self.output.used <= 196595
+        65549 <= N - self.output.used
     }
 }

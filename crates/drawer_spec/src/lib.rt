@@ -7,7 +7,7 @@ pub mod buffers;
 ghost use Rattle.std.specs.Prelude.{◌≡◌, ◌≤◌, length};
 
 // A buffer, of which the first bytes are filled.
-#[derive(Drop)]
+#[derive(Clone, Copy)]
 pub struct Filled<const N: usize> {
     pub bytes: [u8; N],
     pub used: usize,
@@ -15,24 +15,21 @@ pub struct Filled<const N: usize> {
     ghost fits: { used ≤ N },
 }
 
-// The answer lines that are not yet written.
-pub type Output = Filled<262144>;
-
 // What a line reads and changes: the kept tray and index, the room of a sheet, the answer lines that are not yet written, and the number of the
-// line that is being read.
-#[derive(Drop)]
-pub struct Drawer {
+// line that is being read. The output may have any size: for a line its room for one more answer line is all that counts.
+#[derive(Clone, Copy)]
+pub struct Drawer<const N: usize> {
     pub tray: Filled<16384>,
     pub index: Filled<32768>,
     pub room: [u8; 32768],
-    pub output: Output,
+    pub output: Filled<N>,
     pub number: u32,
 }
 
 // What is carried from piece to piece: the drawer, the characters of the line that is being read, and the room of the frame that it spells.
-#[derive(Drop)]
+#[derive(Clone, Copy)]
 pub struct Carried {
-    pub drawer: Drawer,
+    pub drawer: Drawer<262144>,
     pub line: Filled<32771>,
     pub frame: [u8; 16385],
 }

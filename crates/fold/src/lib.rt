@@ -3,6 +3,7 @@
 
 ghost use Rattle.std.specs.Prelude.{◌≡◌, ◌≤◌, length};
 ghost use Rattle.tray.specs.Meaning.{runs_of};
+ghost use Rattle.fold_merge.specs.Folding.{Folding};
 ghost use Rattle.fold_spec.specs.Fold.{fold_size, folded_run, fold_answer, fold_leaves};
 ghost use Rattle.fold_write.specs.Write.{sound_answer};
 
@@ -22,13 +23,14 @@ fn folded_size(runs: &Neighbours, n: usize) -> usize
     4 + 2 * usize::from(runs.left()) + (runs.before().len() + 25 * n + runs.after().len())
 }
 
-// One run folded is the tray as it is: it is copied.
-fn fold_one(runs: &Neighbours, out: &mut [u8]) -> Result<u64, Refusal>
-    requires { runs.now.a.0 ≡ runs.now.b.0 }
-    ensures value { result ≡ sound_answer runs.now.a.0 runs.now.b.0 (runs_of runs.now.tray.bytes.now) (length out.old) }
-    ensures out_after { out.new ≡ fold_leaves runs.now.tray.bytes.now runs.now.a.0 runs.now.b.0 out.old result }
+// One run folded is the tray as it is: it is copied. No neighbours are made for it, which would copy the table of its runs.
+fn fold_one(tray: &Tray, a: RunNo, b: RunNo, out: &mut [u8]) -> Result<u64, Refusal>
+    requires folding { Folding tray.now a.0 b.0 }
+    requires one { a.0 ≡ b.0 }
+    ensures value { result ≡ sound_answer a.0 b.0 (runs_of tray.now.bytes.now) (length out.old) }
+    ensures out_after { out.new ≡ fold_leaves tray.now.bytes.now a.0 b.0 out.old result }
 {
-    let t = runs.tray.bytes;
+    let t = tray.bytes;
     let size = t.len();
     if out.len() < size {
         return Err(Refusal::Room(size as u64));
@@ -65,9 +67,8 @@ pub fn fold(t: &[u8], a: RunNo, b: RunNo, out: &mut [u8]) -> Result<u64, Refusal
         return Err(Refusal::Bounds(u64::from(b.0)));
     }
     check_tray(t)?;
-    let runs = Neighbours { tray, a, b };
     if a == b {
-        return fold_one(&runs, out);
+        return fold_one(&tray, a, b, out);
     }
-    fold_runs(&runs, out)
+    fold_runs(&Neighbours { tray, a, b }, out)
 }

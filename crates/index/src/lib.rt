@@ -3,6 +3,7 @@
 
 pub mod frame;
 
+ghost use Rattle.std.specs.Prelude.{◌≤◌};
 ghost use Rattle.index.specs.Layout.Code.{Laid};
 
 // The number of a segment, from 0.
@@ -18,4 +19,5 @@ pub struct Index<'a> {
     pub size: u8,
     pub segments: u32,
     ghost frame: { Laid bytes.now runs size segments },
+    ghost byte: { size ≤ 255 },
 }

@@ -8,7 +8,7 @@ use Rattle.std.proofs.Common.{sym, ap, ◌∙◌, arith}
 use Rattle.refusal.specs.declared.Refusal.{Refusal}
 use Rattle.refusal.specs.declared.Refusal.TheVariants.{Lost, Cursor as NotBelonging}
 use Rattle.tray.specs.declared.Place.{Place}
-use Rattle.tray.specs.Frame.{run_count, count_of, start_of, Framed}
+use Rattle.tray.specs.Frame.{run_count, count_of}
 use Rattle.walk.specs.declared.cursor.Cursor.{Cursor}
 use Rattle.answers.specs.declared.Stand.{Stand}
 use Rattle.answers.specs.declared.Stand.TheVariants.{Found as FoundAt, End}
@@ -20,11 +20,11 @@ use Rattle.walk.specs.Code.Turns.{place_is, count-is, named-yes, named_past}
 use Rattle.answers.specs.Code.{cursor-back, end-at}
 use Rattle.answers.specs.Seek.{seek_told}
 use Rattle.answers.specs.Next.{next_framed}
+use Rattle.next.specs.Next.{Going}
 
 -- the count of a run stands inside the tray
-pub count-inside : {t : List ℕ} → Framed t → (r : ℕ) → r < run_count t → 6 + 2 * r ≤ length t
-unfolding start_of
-count-inside f r l = omega (arith, f.whole)
+pub count-inside : {t x : List ℕ} {h d n : ℕ} → Going t x h d n → (r : ℕ) → r < h → 6 + 2 * r ≤ length t
+count-inside w r l = omega (arith, w.header)
 
 module _ {t x : List ℕ} {h d n : ℕ} {counts : List ℕ} (w : Walking t x h d n counts) where
   -- what next tells of the end of the walk

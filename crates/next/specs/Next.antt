@@ -1,18 +1,25 @@
 -- Next: past the current selector, and on to the first visible record.
+--     Going, walks, going                       tray and index as next has them
 --     visible_visit, visible-go, visible-stay     the walk stays at the first unmarked selector
 --     Inner, Outer, outer-init                  the loops of the walk
 --     inner-here, inner-later                   a segment is entered: the cursor's own, or one after it
 --     outer-next, outer-end                     after a segment comes the next one, and after the last one the end
+--     passed_by, passed-gap, passed-record, passed-inside   a spot past its selector, by one move or the other
+--     outer-from                                the walk begins there
 --     past-gap-low, past-record-low             a cursor past its selector
 --     next-gap, next-record, next-lost          past the current selector
 --     next-end                                  from the end
-use Rattle.std.specs.Prelude.{◌≡◌, refl, ℕ, zero, suc, ◌+◌, ◌-◌, ◌≤◌, ◌<◌, Bool, true, false, cond, ◌&&◌, List, length, eqb, ltb}
-use Rattle.std.proofs.Common.{sym, ap, ap₂, ◌∙◌, subst, arith, eq-eqb}
-use borrow.Author.Tests.{lt-ltb, le-ltb, eqb-true}
+use Rattle.std.specs.Prelude.{◌≡◌, refl, ℕ, zero, suc, ◌+◌, ◌*◌, ◌-◌, ◌%◌, ◌≤◌, ◌<◌, Bool, true, false, cond, ◌&&◌, List, length, eqb, ltb}
+use Rattle.std.proofs.Common.{sym, ap, ap₂, ◌∙◌, subst, arith, eq-eqb, zero-add}
+use borrow.Author.Tests.{lt-ltb, le-ltb, eqb-true, ne_eqb}
 use Rattle.theory.specs.Tests.{cases, order}
+use Rattle.theory.specs.Listed.{listed}
+use Rattle.theory.proofs.Listed.Laws.{length-listed}
 use Rattle.tray.specs.declared.Place.{Place}
-use Rattle.tray.specs.Frame.{run_count}
+use Rattle.tray.specs.Frame.{run_count, count_of, start_of, Framed}
 use Rattle.index.specs.Layout.{size_of, segment_count, segment_at}
+use Rattle.index.specs.Layout.Code.{Laid}
+use Rattle.index.specs.Layout.Laws.{get_or-listed}
 use Rattle.index.specs.Scan.{run_in, raise}
 use Rattle.walk.specs.declared.cursor.Cursor.{Cursor}
 use Rattle.walk.specs.Walk.{Spot, Visit, stay, go, Walked, stayed, ended, lost, loaded, named, selector_at, walk_selectors, walk_segments, walk_from}
@@ -20,7 +27,40 @@ use Rattle.walk.specs.Reads.{Found, unmarked, found_by, next_visit, next}
 use Rattle.walk.specs.Code.{numbers, Walking, spot_of, Selecting, segments-end, selectors-end, selectors-pass, selectors-lost, selectors-go}
 use Rattle.walk.specs.Code.Load.{loaded_from}
 use Rattle.walk.specs.Code.Moves.{past_gap, past_record}
-use Rattle.walk.specs.Code.Turns.{Here, here-at, here-from, here-first, here-into}
+use Rattle.walk.specs.Code.Turns.{Here, here-at, here-first, here-into}
+
+-- tray and index as next has them: it reads the counts where they stand
+pub record Going (t x : List ℕ) (h d n : ℕ) : Type 0 where
+  pub runs : h ≡ run_count t
+  pub few : h ≤ 63
+  pub header : 4 + 2 * h ≤ length t
+  pub counts : (r : ℕ) → r < run_count t → count_of t r ≤ 4096
+  pub index : Laid x h d n
+
+-- the counts of the tray, as a walk that has them in a list would
+unfoldable pub counts_of : List ℕ → List ℕ
+counts_of t = listed 63 0 (count_of t)
+
+pub walks : {t x : List ℕ} {h d n : ℕ} → Going t x h d n → Walking t x h d n (counts_of t)
+unfolding counts_of
+walks {t} w =
+    let few = w.few in
+    let runs = w.runs in
+    record {
+      runs = w.runs;
+      few = w.few;
+      room = length-listed 63 0 (count_of t);
+      counts-are = λ r l. get_or-listed 63 0 (count_of t) r 0 (omega arith) ∙ ap (count_of t) (zero-add r);
+      index = w.index;
+    }
+
+-- where both frames fit
+pub going : {t x counts : List ℕ} {h d n : ℕ} → Framed t → Walking t x h d n counts → Going t x h d n
+unfolding start_of
+going {t} f w =
+    let whole : length t ≡ start_of t (run_count t) = f.whole in
+    let runs = w.runs in
+    record { runs = w.runs; few = w.few; header = omega arith; counts = f.counts; index = w.index }
 
 -- the walk stays at the first unmarked selector
 unfoldable pub visible_visit : ℕ → Spot → ℕ → Visit ℕ Found
@@ -44,6 +84,37 @@ pub record Outer (t x : List ℕ) (n : ℕ) (c : Spot) (at : Cursor) (g : ℕ) :
   pub low : c.segment ≤ g
   pub here : g ≡ c.segment → (at.selector ≡ c.selector) × (numbers at.places ≡ c.places)
   pub later : c.segment < g → walk_segments t x visible_visit (n - g) g 0 ≡ walk_from t x visible_visit c 0
+
+-- a spot past its selector v
+unfoldable pub passed_by : ℕ → Spot → Spot
+passed_by v c = cond (eqb v 63) (past_gap c) (past_record c (run_in v))
+
+-- it is the one or the other move
+pub passed-gap : {v : ℕ} (c : Spot) → v ≡ 63 → past_gap c ≡ passed_by v c
+unfolding passed_by
+passed-gap {v} c y = sym (rw (eq-eqb v 63 y))
+
+pub passed-record : {v r : ℕ} (c : Spot) → (v ≡ 63 → ⊥) → r ≡ v % 64 → past_record c r ≡ passed_by v c
+unfolding passed_by
+passed-record {v} c n e = rw e (sym (rw (ne_eqb v 63 n)))
+
+-- and stands one selector further
+pub passed-inside : (v : ℕ) (c : Spot) → ((passed_by v c).segment ≡ c.segment) × ((passed_by v c).selector ≡ c.selector + 1)
+unfolding passed_by past_gap past_record
+passed-inside v c = cases (eqb v 63) (λ y. rw y (refl, refl)) (λ n. rw n (refl, refl))
+
+-- the walk begins where the moved cursor stands
+pub outer-from : (t x : List ℕ) (n : ℕ) (c : Spot) (at k : Cursor) → spot_of at ≡ c → length at.places ≡ 63 → k.selector ≡ at.selector → k.places ≡ at.places
+    → Outer t x n c k at.segment.0
+unfolding spot_of
+outer-from t x n c at k e r s p =
+    let segment : c.segment ≡ at.segment.0 = ap (λ (u : Spot). u.segment) (sym e) in
+    record {
+      room = rw p r;
+      low = omega (arith, segment);
+      here = λ _. (s ∙ ap (λ (u : Spot). u.selector) e, ap numbers p ∙ ap (λ (u : Spot). u.places) e);
+      later = λ l. absurd (omega (arith, l, segment));
+    }
 
 pub outer-init : (t x : List ℕ) (n : ℕ) (at : Cursor) → length at.places ≡ 63 → Outer t x n (spot_of at) at at.segment.0
 unfolding spot_of
@@ -156,10 +227,21 @@ past-record-low e c r m = ap (λ (p : Spot). p.selector) m
 
 -- next from a cursor that is not the end, whose selector v is read
 module _ {t x : List ℕ} {h d n : ℕ} {counts : List ℕ} (w : Walking t x h d n counts) (c : Cursor) (inside : c.segment.0 < n) (low : c.selector < d)
-    (room : length c.places ≡ 63) {v : ℕ} (read : v ≡ selector_at (run_count t) x c.segment.0 c.selector) where
+    {v : ℕ} (read : v ≡ selector_at (run_count t) x c.segment.0 c.selector) where
   start : Selecting t x (next_visit (spot_of c)) d n (next t x (spot_of c)) c.segment.0 c.selector (numbers c.places) 0
-  unfolding next
-  start = (here-from w {visit = next_visit (spot_of c)} c 0 inside (omega arith) room).on
+  unfolding next walk_from spot_of
+  start =
+      let size : d ≡ size_of x = w.index.size in
+      let count : n ≡ segment_count x = w.index.count in
+      let visit = next_visit (spot_of c) in
+      record {
+        inside = inside;
+        high = omega arith;
+        same =
+            ap₂ (λ (a b : ℕ). walk_selectors t x visit (a - c.selector) c.segment.0 c.selector (numbers c.places) 0 (walk_segments t x visit (b - (c.segment.0 + 1)) (c.segment.0 + 1)))
+            size count
+            ∙ sym (rw (lt-ltb c.segment.0 (segment_count x) (omega arith)));
+      }
 
   -- a placeholder is passed,
   pub next-gap : v ≡ 63 → walk_from t x visible_visit (past_gap (spot_of c)) 0 ≡ next t x (spot_of c)

@@ -19,7 +19,7 @@ pub fn next(t: &[u8], x: &[u8], from: Cursor) -> Result<Stand, Refusal>
         return Err(Refusal::Cursor(u64::from(g)));
     }
     if g < indexed.index.segments {
-        return next_from(&indexed, from);
+        return next_from(indexed.tray.bytes, &indexed.index, &from);
     }
     Ok(Stand::End(Cursor::end(indexed.index.segments)))
 }

@@ -3,3 +3,4 @@ pub mod Laws
 pub mod Writes
 pub mod Order
 mod Cases
+pub mod Copies

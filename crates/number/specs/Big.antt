@@ -1,5 +1,6 @@
 -- Big-endian numbers in lists of bytes (docs/FORMAT.md, "The tray": all numbers are big-endian; keys are compared as unsigned bytes).
 -- The laws are in `proofs/Big/Laws.antt`, `Writes.antt` and `Order.antt`.
+pub mod Copies
 use Rattle.std.specs.Prelude.{ℕ, zero, suc, ◌+◌, ◌*◌, ◌/◌, ◌%◌, ◌<◌, ◌≡◌, List, [], ◌∷◌, ◌++◌, length, get_or, take, drop}
 
 -- the number that the w bytes of s from place p on spell, the highest byte first

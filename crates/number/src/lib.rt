@@ -73,10 +73,13 @@ impl BigEndian for u64 {
     }
 }
 
-// Copies bytes to a place of the output, and writes nothing else.
+// Copies bytes to a place of the output, and writes nothing else. Byte by byte, which the compiler makes one copy: from slice to slice it would be one that
+// expects the two to overlap.
 pub fn copy(part: &[u8], out: &mut [u8], at: usize)
     requires { at + length part.now ≤ length out.old }
     ensures { out.new ≡ put out.old at part.now }
 {
-    out[at..at + part.len()].copy_from_slice(part);
+    for (i, byte) in part.iter().enumerate() {
+        out[at + i] = *byte;
+    }
 }

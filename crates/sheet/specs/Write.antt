@@ -10,7 +10,7 @@ use Rattle.std.proofs.Math.Path.{refl, sym, ap, ap₂, subst}
 use Rattle.std.proofs.Common.{◌∙◌, zero-add}
 use Prim.Native.Nat.{ℕ, ◌-◌, ◌*◌, ◌≤◌, ◌<◌}
 use native.Mathlib.Omega.{arith}
-use Rattle.std.proofs.Math.Bool.{true}
+use Rattle.std.proofs.Math.Bool.{true, false}
 use mathlib.Core.List.{List, [], ◌++◌, map}
 use Rattle.std.proofs.Math.ListN.{length, drop}
 use Rattle.std.proofs.Math.Seq.{length-take-le}
@@ -39,7 +39,7 @@ use Rattle.sheet_count.specs.declared.Counted.{Counted}
 use Rattle.list.specs.Page.{begun, paged_of}
 use Rattle.list.specs.Put.{put_all}
 use Rattle.list.specs.Put.Laws.{put_all-written}
-use Rattle.sheet_count.specs.Count.{Listed, LostIn}
+use Rattle.sheet_count.specs.Count.{counted_as, Counts}
 use Rattle.sheet_count.specs.Second.{second-listed, written_out}
 use Rattle.answers.specs.Sheet.{prefix_long, prefix_last, listed_in, sheet_told, records_of, sheet_framed, sheet_answer, sheet_leaves}
 
@@ -123,18 +123,27 @@ module _ (t x : List ℕ) (c : Spot) (held : List ℕ) (out : List ℕ) {count :
             };
       }
 
+-- a count that came through is that of the records that its walk lists
+counted-lists : (b : Bool) (es : List Record) → Lists (counted_as (Ok b) es) es
+unfolding counted_as
+counted-lists true es = to-bound
+counted-lists false es = to_end
+
 -- both passes: the first is lost,
-pub gives-lost : {walk : Walked (List Record) (List Record)} (out : List ℕ) {l : LostAt} → LostIn walk l → Gives walk out out (Err (Lost l.segment l.selector))
-unfolding sheet_told left
-gives-lost out f = record { answer = ap (sheet_told (length out)) f.same; leaves = refl }
+pub gives-lost : {t : List ℕ} {walk : Walked (List Record) (List Record)} {q : Counted} {ats : List ℕ} (out : List ℕ) {l : LostAt} → Counts t walk q ats → q.stop ≡ Err l
+    → Gives walk out out (Err (Lost l.segment l.selector))
+unfolding counted_as sheet_told left
+gives-lost out f e = record { answer = ap (sheet_told (length out)) (rw e at f.same); leaves = refl }
 
 -- or comes to its bound or the end
-pub gives-listed : {t x : List ℕ} (high : ℕ) {c : Spot} {q : Counted} {ats : List ℕ} → Listed t (walk_from t x (sheet_visit t high) c []) q ats → {out after : List ℕ} {r : Result ℕ Refusal}
-    → Leaves t x c (take q.held ats) q.count out after r → Gives (walk_from t x (sheet_visit t high) c []) out after r
-gives-listed high {q = q} {ats} f second =
+pub gives-listed : {t x : List ℕ} (high : ℕ) {c : Spot} {q : Counted} {ats : List ℕ} {b : Bool} → Counts t (walk_from t x (sheet_visit t high) c []) q ats → q.stop ≡ Ok b
+    → {out after : List ℕ} {r : Result ℕ Refusal} → Leaves t x c (take q.held ats) q.count out after r → Gives (walk_from t x (sheet_visit t high) c []) out after r
+gives-listed {t} {x} high {c} {q} {ats} {b} f e second =
     let m = f.remembered in
     let long : length (take q.held ats) ≡ q.held = length-take-le q.held ats m.fits in
-    second.of high f.records f.lists m.many (λ y. m.whole (sym long ∙ y))
+    let lists : Lists (walk_from t x (sheet_visit t high) c []) f.records =
+    subst (λ (w : Walked (List Record) (List Record)). Lists w f.records) (rw e at f.same) (counted-lists b f.records) in
+    second.of high f.records lists m.many (λ y. m.whole (sym long ∙ y))
 
 -- no record needs no room,
 none-listed : (room : ℕ) → Ok 0 ≡ listed_in room []

@@ -27,7 +27,8 @@ fn list_from(listing: &Listing, high: u64, out: &mut [u8]) -> Result<u64, Refusa
 {
     // As many as a common sheet has, and few enough to be cleared at each call.
     let mut ats = [0usize; 512];
-    let counted = count_from(listing, high, &mut ats)?;
+    let counted = count_from(listing, high, &mut ats);
+    counted.stop?;
     write_counted(listing, &ats[..counted.held], counted.count, out)
 }
 

@@ -1,11 +1,10 @@
 -- How many records sheet lists, as the code hands it over.
 pub mod Code
-use Rattle.std.specs.Prelude.{◌≡◌, ℕ, ◌≤◌, ◌<◌, List, map, length, get_or, take, Result, MatchResult}
+use Rattle.std.specs.Prelude.{◌≡◌, ℕ, ◌≤◌, ◌<◌, Bool, true, false, List, map, length, get_or, take, Result, Ok, Err}
 use Rattle.theory.specs.Records.{Record}
 use Rattle.tray.specs.Run.{record_from}
 use Rattle.walk.specs.declared.cursor.Lost.{Lost as LostAt}
-use Rattle.walk.specs.Walk.{Walked, lost}
-use Rattle.walk.specs.Reads.Sheet.{Lists}
+use Rattle.walk.specs.Walk.{Walked, stayed, ended, lost}
 use Rattle.list.specs.Stops.{Within}
 use Rattle.sheet_count.specs.declared.Counted.{Counted}
 
@@ -23,17 +22,14 @@ pub record Remembered (t : List ℕ) (records : List Record) (count held : ℕ) 
   pub within : Within t (take held ats)
   pub whole : held ≡ count → records ≡ map (record_from t) (take held ats)
 
--- a count that came through is that of the records that the walk lists
-pub record Listed (t : List ℕ) (walk : Walked (List Record) (List Record)) (r : Counted) (ats : List ℕ) : Type 0 where
+-- what a count's end says, with the records that its walk passed
+unfoldable pub counted_as : Result Bool LostAt → List Record → Walked (List Record) (List Record)
+counted_as (Ok true) es = stayed es
+counted_as (Ok false) es = ended es
+counted_as (Err l) es = lost l.segment l.selector es
+
+-- a count is that of a walk: it ended as the walk did, with as many records, of which the last are remembered
+pub record Counts (t : List ℕ) (walk : Walked (List Record) (List Record)) (r : Counted) (ats : List ℕ) : Type 0 where
   pub records : List Record
-  pub lists : Lists walk records
+  pub same : counted_as r.stop records ≡ walk
   pub remembered : Remembered t records r.count r.held ats
-
--- or the walk is lost, where it says
-pub record LostIn (walk : Walked (List Record) (List Record)) (l : LostAt) : Type 0 where
-  pub records : List Record
-  pub same : lost l.segment l.selector records ≡ walk
-
--- a count is that of a walk
-abbrev pub Counts : List ℕ → Walked (List Record) (List Record) → Result Counted LostAt → List ℕ → Type 0
-Counts t walk r ats = MatchResult r (λ (c : Counted). Listed t walk c ats) (LostIn walk)

@@ -2,7 +2,7 @@
 // stand as long as there is room for those of a segment.
 #![tactic(auto)]
 
-ghost use Rattle.std.specs.Prelude.{◌≡◌, cond, ◌+◌, ◌*◌, ◌≤◌, leb, length, IfOk};
+ghost use Rattle.std.specs.Prelude.{◌≡◌, cond, ◌+◌, ◌*◌, ◌≤◌, leb, length};
 ghost use Rattle.list.specs.Stops.{Within};
 ghost use Rattle.list.specs.Listing.{sheet_of};
 ghost use Rattle.sheet_count.specs.Count.{Past, Counts};
@@ -14,11 +14,13 @@ use tray::Place;
 use tray::run::key_at;
 use walk::cursor::Lost;
 
-// A count that came through: how many records are to be listed, and how many of them, the last ones, are remembered.
+// The end of a count: how many records its walk passed that are to be listed, how many of them, the last ones, are remembered, and where the walk
+// stopped: true at a record at or above the bound, false at the end, or where it is lost.
 #[derive(Clone, Copy)]
 pub struct Counted {
     pub count: usize,
     pub held: usize,
+    pub stop: Result<bool, Lost>,
 }
 
 // How many of the gathered records stand before the first one whose key is at or above a bound.
@@ -46,12 +48,13 @@ fn slots_kept(held: usize, more: usize, room: usize) -> usize
     held
 }
 
-// How many unmarked records a listing comes to until the first key at or above a bound, or where its walk is lost; never more than 2^40.
-pub fn count_from(listing: &Listing, high: u64, ats: &mut [usize]) -> Result<Counted, Lost>
+// How many unmarked records a listing comes to until the first key at or above a bound, to its end, or to where its walk is lost, and which of these
+// it was; never more than 2^40.
+pub fn count_from(listing: &Listing, high: u64, ats: &mut [usize]) -> Counted
     requires { listing.now.indexed.now.index.size ≤ length ats.old }
     ensures counts { Counts listing.now.indexed.now.tray.bytes.now (sheet_of listing.now high) result ats.new }
-    ensures count_bound { IfOk result (λ c. c.count ≤ 256 * listing.now.indexed.now.index.segments) }
-    ensures count_few { IfOk result (λ c. c.count ≤ 1099511627776) }
+    ensures count_bound { result.count ≤ 256 * listing.now.indexed.now.index.segments }
+    ensures count_few { result.count ≤ 1099511627776 }
 {
     let indexed = listing.indexed;
     let index = &indexed.index;
@@ -67,9 +70,23 @@ pub fn count_from(listing: &Listing, high: u64, ats: &mut [usize]) -> Result<Cou
         held = before + fresh;
         count += fresh;
         if held < k {
-            return Ok(Counted { count, held });
+            return Counted {
+                count,
+                held,
+                stop: Ok(true),
+            };
         }
-        gathered.stop?;
+        if let Err(lost) = gathered.stop {
+            return Counted {
+                count,
+                held,
+                stop: Err(lost),
+            };
+        }
     }
-    Ok(Counted { count, held })
+    Counted {
+        count,
+        held,
+        stop: Ok(false),
+    }
 }

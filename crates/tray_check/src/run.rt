@@ -33,6 +33,13 @@ fn key_right(last: u64, key: u64, p: u16) -> bool
     last < key || p == 0
 }
 
+// No more than 0 where a record is live and its key above the last one: added up, so that there is nothing to jump for.
+fn odd(kind: u8, last: u64, key: u64) -> u16
+    ensures { result ≡ 0 → (kind ≡ 0) × (last < key) }
+{
+    u16::from(kind) + u16::from(key <= last)
+}
+
 // The first wrong record of a run of n, its kind before its key.
 pub fn check_run(run: &[u8], n: u16) -> Result<(), Fault>
     requires { length run.now ≡ 25 * n }
@@ -43,7 +50,7 @@ pub fn check_run(run: &[u8], n: u16) -> Result<(), Fault>
         let at = 25 * usize::from(p);
         let key = u64::read(run, at);
         // Most records are live and above the last one: told first, so that the loop has one jump for them.
-        if run[at + 8] == 0 && key > last {
+        if odd(run[at + 8], last, key) == 0 {
             last = key;
             continue;
         }

@@ -6,4 +6,5 @@ use Rattle.drawer_spec.specs.Turns.{said-only}
 use Rattle.drawer_line.proofs.put_bad.Goals as goal
 
 pub returns : goal.returns
-returns c = said-only refl refl refl (ap (λ n. answer 127 13 n []) c.from.ensures ∙ bad-is c.args.drawer.now.number) c.say.ensures
+unfolding answer
+returns g c = said-only refl refl refl (ap (λ n. answer 127 13 n []) c.from.ensures ∙ bad-is c.args.drawer.now.number) c.say.ensures

@@ -4,4 +4,4 @@ use Rattle.drawer_spec.specs.Feed.Code.{answered}
 use Rattle.drawer_read.proofs.answer.Goals as goal
 
 pub returns : goal.returns
-returns c = answered c.args.line.now c.answer_line.ensures refl refl refl refl
+returns g c = answered c.args.line.now c.answer_line.ensures refl refl refl refl

@@ -22,7 +22,7 @@ use Rattle.drawer_spec.specs.declared.Filled.{Filled}
 use Rattle.drawer_spec.specs.declared.Carried.{Carried}
 use Rattle.drawer_spec.specs.Filled.{filled, length-filled}
 use Rattle.drawer_spec.specs.Line.{Turn, turn, answer_line}
-use Rattle.drawer_spec.specs.Turns.{Roomy, Turned, turn_in}
+use Rattle.drawer_spec.specs.Turns.{Roomy, Turned, turn_in, output_size}
 use Rattle.drawer_spec.specs.Theorems.{turn-front}
 use Rattle.drawer_spec.specs.Feed.{Progress, begun, ended, more, feed, finished}
 use Rattle.drawer_spec.specs.Feed.Laws.{Plain, feed-append, feed-more, feed-line}
@@ -36,7 +36,7 @@ abbrev pub line_feed : ℕ → Bool
 line_feed c = eqb c 10
 
 -- the drawer is this progress, but for the characters of the line
-pub record Keeps (d : Drawer) (p : Progress) : Type 0 where
+pub record Keeps {n : ℕ} (d : Drawer n) (p : Progress) : Type 0 where
   pub tray : filled d.tray ≡ p.tray
   pub index : filled d.index ≡ p.index
   pub number : d.number ≡ p.number
@@ -48,7 +48,7 @@ pub record Stands (c : Carried) (p : Progress) : Type 0 where
   pub gathers : filled c.line ≡ take gather_size p.line
 
 -- a line has taken its turn
-abbrev pub Answers : List ℕ → Drawer → Drawer → Type 0
+abbrev pub Answers : {n : ℕ} → List ℕ → Drawer n → Drawer n → Type 0
 Answers line before after = (p : Progress) → Keeps before p → take gather_size p.line ≡ take gather_size line → Keeps after (ended p)
 
 -- a line feed after some characters
@@ -62,7 +62,7 @@ pub record Takes (piece : List ℕ) (before : Carried) (taken : ℕ) (after : Ca
   pub fed : (p : Progress) → Stands before p → Stands after (feed p (take taken piece))
 
 -- the end of the input
-abbrev pub Finishes : Carried → Drawer → Type 0
+abbrev pub Finishes : Carried → Drawer output_size → Type 0
 Finishes before after = (p : Progress) → Stands before p → Keeps after (finished p)
 
 -- before the first byte it is where all begins
@@ -114,14 +114,15 @@ line-open cs is =
 
 -- gather_line
 -- characters after those that are gathered, as far as there is room
-pub gathered : (line : Filled 32771) (part : List ℕ)
-    → filled line ++ take (min (length part) (gather_size - line.used)) part ≡ take gather_size (filled line ++ part)
-gathered line part =
+pub gathered : (line : Filled 32771) (part : List ℕ) {left : ℕ} → left ≡ min (length part) (gather_size - line.used)
+    → filled line ++ take left part ≡ take gather_size (filled line ++ part)
+gathered line part is =
     let left = gather_size - line.used in
     let used : length (filled line) ≡ line.used = length-filled line in
     let fits : line.used ≤ gather_size = line.fits in
     let sum : length (filled line) + left ≡ gather_size = omega arith in
-    ap (λ (l : List ℕ). filled line ++ l) (cut left) ∙ sym (ap (λ (n : ℕ). take n (filled line ++ part)) (sym sum) ∙ take-append-add (filled line) part left)
+    ap (λ (n : ℕ). filled line ++ take n part) is ∙ ap (λ (l : List ℕ). filled line ++ l) (cut left)
+    ∙ sym (ap (λ (n : ℕ). take n (filled line ++ part)) (sym sum) ∙ take-append-add (filled line) part left)
   where
     cut : (left : ℕ) → take (min (length part) left) part ≡ take left part
     cut left =
@@ -134,7 +135,7 @@ gathered line part =
         rw m)
 
 -- answer
-pub answered : (line : List ℕ) {before mid after : Drawer} → Turned (turn_in before line) before mid → filled after.tray ≡ filled mid.tray
+pub answered : {m : ℕ} (line : List ℕ) {before mid after : Drawer m} → Turned (turn_in before line) before mid → filled after.tray ≡ filled mid.tray
     → filled after.index ≡ filled mid.index → filled after.output ≡ filled mid.output → after.number ≡ (mid.number + 1) % 2 ^ 32
     → Answers line before after
 unfolding ended
@@ -153,7 +154,7 @@ answered line {before} u t x o n p k cut =
 
 -- end_line
 -- the line of some progress is what was gathered, and a part more
-more-keeps : {d : Drawer} {p : Progress} (part : List ℕ) → Keeps d p → Keeps d (more p part)
+more-keeps : {n : ℕ} {d : Drawer n} {p : Progress} (part : List ℕ) → Keeps d p → Keeps d (more p part)
 unfolding more
 more-keeps part k = record { tray = k.tray; index = k.index; number = k.number; said = k.said }
 
@@ -247,7 +248,10 @@ module _ {piece : List ℕ} {before now : Carried} {at : ℕ} (w : Taking piece 
             ∙ feed-append p (take at piece) cs ∙ feed-more q cs (line-open cs (sym is ∙ none)) in
             let stands = w.fed p s in
             subst (Stands after) (sym fed)
-            (record { keeps = subst (λ (d : Drawer). Keeps d (more q cs)) (sym same) (more-keeps cs stands.keeps); gathers = more-front now q cs stands.gathers e });
+            (record {
+              keeps = subst (λ (d : Drawer output_size). Keeps d (more q cs)) (sym same) (more-keeps cs stands.keeps);
+              gathers = more-front now q cs stands.gathers e;
+            });
       }
 
   pub takes-full : (Roomy now.drawer → ⊥) → Takes piece before at now

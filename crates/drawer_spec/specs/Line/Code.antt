@@ -1,5 +1,6 @@
 -- What the code of answers and frames needs of the definitions.
---     head-is, said-line, bad-is     an answer line written: its head, all of it, and that of a bad line
+--     head-is, said-line             an answer line written: its head, and all of it
+--     bad-is, refusal-said           that of a bad line, and that of a refusal
 --     index-front                    02: the index that was written
 --     sheet-room, sheet-front        04: the listing that was written
 use Rattle.std.specs.Prelude.{◌≡◌, ℕ, ◌+◌, ◌*◌, ◌/◌, ◌%◌, ◌≤◌, leb, Ok, Err, Result}
@@ -11,6 +12,7 @@ use Rattle.number.specs.Big.{bytes_of, put}
 use Rattle.number.proofs.Big.Laws.{length-bytes_of, bytes_of-add}
 use Rattle.number.proofs.Big.Writes.{take_put}
 use Rattle.refusal.specs.declared.Refusal.{Refusal}
+use Rattle.refusal.specs.Table.{verdict_of}
 use Rattle.theory.specs.Records.{Record}
 use Rattle.theory.specs.Tests.{split, never}
 use Rattle.tray.specs.Meaning.{runs_of}
@@ -24,7 +26,7 @@ use Rattle.answers.specs.Seek.Hands.{in-frames}
 use Rattle.answers.specs.Sheet.{prefix_long, prefix_last, listed_in, sheet_told, records_of, sheet_framed, sheet_answer, sheet_leaves}
 use Rattle.hexadecimal.specs.Hex.{hex_of}
 use Rattle.hexadecimal.specs.Hex.Laws.{hex_of-append}
-use Rattle.drawer_spec.specs.Line.{room_size, answer, bad_answer, answer_line}
+use Rattle.drawer_spec.specs.Line.{room_size, answer, refusal, bad_answer, answer_line}
 
 -- a number's 4 lowest bytes are those of its lowest 32 bits
 low-bytes : (n : ℕ) → bytes_of 4 (n % 0x100000000) ≡ bytes_of 4 n
@@ -47,6 +49,12 @@ said-line before head more = simp (append_assoc, hex_of-append)
 pub bad-is : (n : ℕ) → answer 127 13 n [] ≡ bad_answer n
 unfolding answer bad_answer
 bad-is n = ap (λ (l : List ℕ). 255 ∷ 13 ∷ l) (append-nil (bytes_of 4 n))
+
+-- a refusal's answer, said by its code: nothing comes after its figure
+pub refusal-said : (kind : ℕ) (r : Refusal) (before : List ℕ) {after : List ℕ}
+    → after ≡ before ++ answer_line ((128 + kind) ∷ (verdict_of r).number ∷ bytes_of 4 (verdict_of r).figure) → after ≡ before ++ answer_line (refusal kind r)
+unfolding refusal answer
+refusal-said kind r before e = rw (append-nil (bytes_of 4 (verdict_of r).figure)) e
 
 -- 02: the index that was written stands at the front of its buffer
 pub record IndexFront (t : List ℕ) (d k : ℕ) (bytes : List ℕ) : Type 0 where

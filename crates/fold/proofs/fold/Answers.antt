@@ -48,9 +48,9 @@ returns-in_err-check_tray-clause-out_after c =
     let p = err_from_is_err_and c.from_residual-in_err-check_tray.result c.from_residual-in_err-check_tray.ensures.1 in
     rw (p.1, p.2) (leaves-same _ _ _ _ _)
 
-pub invariant_of-runs : goal.invariant_of-runs
-invariant_of-runs c =
-    record { holds = folding c.in_ok-tray.tray c.in_ok-tray.ensures.1 (bytes-known _ c.type_inv.t) c.if-b-a.false c.if-tray-b.false c.in_ok-check_tray.ensures }
+pub fold_one-requires-clause-folding : goal.fold_one-requires-clause-folding
+fold_one-requires-clause-folding c =
+    folding c.in_ok-tray.tray c.in_ok-tray.ensures.1 (bytes-known _ c.type_inv.t) c.if-b-a.false c.if-tray-b.false c.in_ok-check_tray.ensures
 
 pub returns-then-eq-clause-value : goal.returns-then-eq-clause-value
 returns-then-eq-clause-value c =
@@ -58,8 +58,8 @@ returns-then-eq-clause-value c =
     let told = rw e.1 at c.fold_one.ensures.value in
     answer-sound _ _ _ _ e.0 (runs-are c.in_ok-tray.tray e.1) c.if-b-a.false c.if-tray-b.false c.in_ok-check_tray.ensures told
 
-pub invariant_of-runs-2 : goal.invariant_of-runs-2
-invariant_of-runs-2 c =
+pub invariant_of-fold_runs : goal.invariant_of-fold_runs
+invariant_of-fold_runs c =
     record { holds = folding c.in_ok-tray.tray c.in_ok-tray.ensures.1 (bytes-known _ c.type_inv.t) c.if-b-a.false c.if-tray-b.false c.in_ok-check_tray.ensures }
 
 pub returns-clause-value : goal.returns-clause-value

@@ -57,15 +57,14 @@ module _ (h : ℕ) (x : List ℕ) where
 
 -- an index of n segments of d for a tray of h runs, as its functions ask for it
 pub record Laid (x : List ℕ) (h d n : ℕ) : Type 0 where
-  pub byte : d ≤ 255
   pub size : d ≡ size_of x
   pub count : n ≡ segment_count x
   pub whole : length x ≡ segment_at h d n
 
 -- what a frame that fits says
-pub laid : (x : List ℕ) {h d n : ℕ} → index_framed h x ≡ true → d ≤ 255 → d ≡ size_of x → n ≡ segment_count x → Laid x h d n
-laid x {h} f byte size count =
-    record { byte = byte; size = size; count = count; whole = (index-fits h x f).whole ∙ ap₂ (segment_at h) (sym size) (sym count) }
+pub laid : (x : List ℕ) {h d n : ℕ} → index_framed h x ≡ true → d ≡ size_of x → n ≡ segment_count x → Laid x h d n
+laid x {h} f size count =
+    record { size = size; count = count; whole = (index-fits h x f).whole ∙ ap₂ (segment_at h) (sym size) (sym count) }
 
 -- no product of a segment's number and size is large
 pub size_low : (n w : ℕ) → n < 4294967296 → w ≤ 773 → n * w ≤ 4294967296 * 773

@@ -5,8 +5,8 @@ use Rattle.walk.specs.Code.{spot_of}
 use Rattle.list.specs.Gathers.{gathers-all, gathers-lost}
 use Rattle.list.specs.Stops.Laws.{gathered-within}
 use Rattle.list.specs.Steps.{entering-first, here-entered, here-left, here-over}
-use Rattle.sheet_count.specs.Count.Code.{remembers-none, remembers-fits, remembers-more, within-part, counted-past, counted-lost, counted-on, counted-few, lists-bound, lists-end, lost-counts}
-use Rattle.std.proofs.lemmas.Result.{err_from_is_err_and}
+use Rattle.sheet_count.specs.Count.{counted_as}
+use Rattle.sheet_count.specs.Count.Code.{remembers-none, remembers-fits, remembers-more, within-part, counted-past, counted-lost, counted-on, counted-few}
 use Rattle.sheet_count.proofs.count_from.Goals as goal
 
 pub loop-g-init : goal.loop-g-init
@@ -26,6 +26,7 @@ pub shape_of-ats-then-held-k : goal.shape_of-ats-then-held-k
 shape_of-ats-then-held-k c = omega (arith, c.loop-g.invariant.kept)
 
 pub returns-then-held-k-clause-counts : goal.returns-then-held-k-clause-counts
+unfolding counted_as
 returns-then-held-k-clause-counts c =
     let i = here-entered c.args.listing.now.indexed.now.walking c.loop-g.invariant.entering c.loop-g-test.true c.enter.array_long c.enter.ensures.spot c.from-at.ensures c.enter.ensures.low in
     let m = remembers-fits c.loop-g.invariant.remembered refl (omega (arith, c.loop-g.invariant.kept)) c.slots_kept-before.ensures.value in
@@ -34,19 +35,23 @@ returns-then-held-k-clause-counts c =
     let past = c.first_past-fresh.ensures in
     record {
       records = _;
-      lists = lists-bound (counted-past i m framed refl f (omega arith) past c.if-held-k.true);
+      same = counted-past i m framed refl f (omega arith) past c.if-held-k.true;
       remembered = remembers-more i m framed refl f (omega arith) past;
     }
 
-pub returns-in_err-gathered-clause-counts : goal.returns-in_err-gathered-clause-counts
-returns-in_err-gathered-clause-counts c =
+pub returns-in-Err-clause-counts : goal.returns-in-Err-clause-counts
+unfolding counted_as
+returns-in-Err-clause-counts c =
     let i = here-entered c.args.listing.now.indexed.now.walking c.loop-g.invariant.entering c.loop-g-test.true c.enter.array_long c.enter.ensures.spot c.from-at.ensures c.enter.ensures.low in
     let m = remembers-fits c.loop-g.invariant.remembered refl (omega (arith, c.loop-g.invariant.kept)) c.slots_kept-before.ensures.value in
     let framed = c.args.listing.now.indexed.now.tray.frame.at.frame in
-    let f = gathers-lost c.gather-gathered.ensures c.in_err-gathered.was in
+    let f = gathers-lost c.gather-gathered.ensures c.in-Err.is in
     let past = c.first_past-fresh.ensures in
-    let p = err_from_is_err_and c.from_residual.result c.from_residual.ensures.1 in
-    lost-counts _ _ p.1 p.2 (counted-lost i m framed refl f.0 (omega arith) past c.if-held-k.false f.1.0 refl f.1.1)
+    record {
+      records = _;
+      same = counted-lost i m framed refl f.0 (omega arith) past c.if-held-k.false f.1.0 refl f.1.1;
+      remembered = remembers-more i m framed refl f.0 (omega arith) past;
+    }
 
 pub loop-g-preserved : goal.loop-g-preserved
 unfolding spot_of
@@ -54,9 +59,9 @@ loop-g-preserved c =
     let i = here-entered c.args.listing.now.indexed.now.walking c.loop-g.invariant.entering c.loop-g-test.true c.enter.array_long c.enter.ensures.spot c.from-at.ensures c.enter.ensures.low in
     let m = remembers-fits c.loop-g.invariant.remembered refl (omega (arith, c.loop-g.invariant.kept)) c.slots_kept-before.ensures.value in
     let framed = c.args.listing.now.indexed.now.tray.frame.at.frame in
-    let f = gathers-all c.gather-gathered.ensures c.in_ok-gathered.was in
+    let f = gathers-all c.gather-gathered.ensures c.in_default.is in
     let past = c.first_past-fresh.ensures in
-    let byte : c.args.listing.now.indexed.now.index.size ≤ 255 = c.args.listing.now.indexed.now.index.frame.byte in
+    let byte : c.args.listing.now.indexed.now.index.size ≤ 255 = c.args.listing.now.indexed.now.index.byte in
     let few = counted-few i m framed refl f (omega arith) past (omega arith) c.loop-g.invariant.few in
     record {
       records = _;
@@ -68,9 +73,10 @@ loop-g-preserved c =
     }
 
 pub returns-clause-counts : goal.returns-clause-counts
+unfolding counted_as
 returns-clause-counts c =
     let i = c.loop-g.invariant in
-    record { records = i.records; lists = lists-end (here-over c.args.listing.now.indexed.now.walking i.entering c.loop-g-test.false); remembered = i.remembered }
+    record { records = i.records; same = here-over c.args.listing.now.indexed.now.walking i.entering c.loop-g-test.false; remembered = i.remembered }
 
 pub returns-clause-count_bound : goal.returns-clause-count_bound
 returns-clause-count_bound c = c.loop-g.invariant.low

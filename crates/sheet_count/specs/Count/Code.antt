@@ -5,8 +5,7 @@
 --     Counting                                                      the loop over segments
 --     within-part                                                   the gathered ones are part of what is remembered
 --     counted-past, counted-lost, counted-on, counted-few           its turn: at the bound, lost, after the segment
---     lists-bound, lists-end, lost-counts                           its ends
-use Rattle.std.specs.Prelude.{◌≡◌, refl, false, cond, length, get_or, take, drop, leb, Result, Err}
+use Rattle.std.specs.Prelude.{◌≡◌, refl, false, cond, length, get_or, take, drop, leb}
 use Rattle.std.proofs.Math.Path.{sym, ap}
 use Rattle.std.proofs.Common.{ap₂, ◌∙◌, subst, add-zero, length-append, length-take-le, take_all, get_or-drop, length-drop, take-take}
 use Prim.Native.Nat.{ℕ, zero, suc, ◌+◌, ◌-◌, ◌*◌, ◌≤◌, ◌<◌}
@@ -22,7 +21,7 @@ use Rattle.theory.specs.Tests.{cases}
 use Rattle.tray.specs.declared.Place.{Place}
 use Rattle.tray.specs.Frame.{Framed}
 use Rattle.tray.specs.Run.{record_from, record_at}
-use Rattle.walk.specs.Walk.{Spot, Visit, stay, go, Walked, stayed, ended, lost, walk_selectors, walk_segments}
+use Rattle.walk.specs.Walk.{Spot, Visit, stay, go, Walked, stayed, lost, walk_selectors, walk_segments}
 use Rattle.walk.specs.Walk.Tours.{after, tour_then}
 use Rattle.walk.specs.Reads.{unmarked, sheet_visit}
 use Rattle.walk.specs.Code.{numbers}
@@ -31,10 +30,7 @@ use Rattle.list.specs.Stops.{NamedStop, stops_in, position_of, Within, GatheredF
 use Rattle.list.specs.Stops.Laws.{seen_at, then_on, then-lost, then-rest, walk-stops, record-part, Right, stops-right, within_none, within-take, gathered-within}
 use Rattle.list.specs.Steps.{Entering}
 use Rattle.walk.specs.declared.cursor.Lost.{Lost}
-use Rattle.walk.specs.Reads.Sheet.{Lists}
-use Rattle.walk.specs.Reads.Sheet.Lists.{to-bound, to_end}
-use Rattle.sheet_count.specs.declared.Counted.{Counted}
-use Rattle.sheet_count.specs.Count.{Past, Remembered, Counts}
+use Rattle.sheet_count.specs.Count.{Past, Remembered}
 
 -- the loop that looks for the bound: all keys before this one are below it
 pub record Seeking (t ats : List ℕ) (high i : ℕ) : Type 0 where
@@ -261,15 +257,3 @@ module _ {t x : List ℕ} {high d n : ℕ} {whole : Walked (List Record) (List R
   -- at most one record a selector is counted then
   pub counted-few : d < 256 → count ≤ 256 * g → count + fresh ≤ 256 * (g + 1)
   counted-few b c = omega (arith, found-stops.most, stop-count, from.few, from.high)
-
--- the records that a walk lists: it came to its bound, or to the end
-pub lists-bound : {walk : Walked (List Record) (List Record)} {es : List Record} → stayed es ≡ walk → Lists walk es
-lists-bound {es = es} e = subst (λ (w : Walked (List Record) (List Record)). Lists w es) e to-bound
-
-pub lists-end : {walk : Walked (List Record) (List Record)} {es : List Record} → ended es ≡ walk → Lists walk es
-lists-end {es = es} e = subst (λ (w : Walked (List Record) (List Record)). Lists w es) e to_end
-
--- a count that is lost
-pub lost-counts : (t ats : List ℕ) {walk : Walked (List Record) (List Record)} {r : Result Counted Lost} {e l : Lost} {es : List Record} → r ≡ Err e → e ≡ l
-    → lost l.segment l.selector es ≡ walk → Counts t walk r ats
-lost-counts t ats {es = es} a b c = rw (a, b) (record { records = es; same = c })

@@ -6,4 +6,4 @@ use Rattle.drawer_spec.specs.Line.Code.{head-is}
 use Rattle.drawer_frame.proofs.says.put_answer_head.Goals as goal
 
 pub returns : goal.returns
-returns c = c.put_digits.ensures ∙ ap (λ bytes. filled c.args.out.now ++ hex_of bytes) (head-is c.args.code c.args.number c.args.figure c.write.ensures)
+returns g c = c.put_digits.ensures ∙ ap (λ bytes. filled c.args.out.now ++ hex_of bytes) (head-is c.args.code c.args.number c.args.figure c.write.ensures)

@@ -6,6 +6,6 @@ use Rattle.hexadecimal.specs.Hex.Laws.{length-hex_of}
 use Rattle.drawer_frame.proofs.says.put_digits.Goals as goal
 
 pub returns : goal.returns
-returns c =
+returns g c =
     ap (take _) c.encode.ensures
     ∙ (rw length-hex_of at (take_put c.args.out.now.bytes c.args.out.now.used (hex_of c.args.bytes.now) (omega arith)))

@@ -28,7 +28,7 @@ invariant_of-result c =
     let fits =
     frame-fits _ _ c.if-x-lt8.false c.if-x-h.false c.if-d-h.false (omega arith) c.if-x-ne0.false c.if-x-ne0-2.false c.read-n.ensures c.segment_at.ensures c.if-x-segment_at.true
     in
-    record { frame = laid _ fits (omega arith) refl c.read-n.ensures }
+    record { frame = laid _ fits refl c.read-n.ensures; byte = omega arith }
 
 pub returns-then-x-segment_at : goal.returns-then-x-segment_at
 returns-then-x-segment_at c = (

@@ -7,7 +7,7 @@ use Rattle.answers.specs.declared.Stand.TheVariants.{End}
 use Rattle.answers.specs.Code.{frames-fit, frames-refused}
 use Rattle.answers.specs.Next.{next_framed, next_answer}
 use Rattle.walk_cursor.specs.Tested.{belongs-low}
-use Rattle.next.specs.Next.{next-end}
+use Rattle.next.specs.Next.{going, next-end}
 use Rattle.next.specs.Code.{told-end, next-on, next-off}
 use Rattle.next.proofs.calls.next.Goals as goal
 
@@ -27,7 +27,12 @@ returns-then-not-belongs c =
     ∙ sym (frames-fit Err _ _ _ i.0)
 
 pub next_from-requires : goal.next_from-requires
-next_from-requires c = (omega arith, belongs-low c.in_ok-indexed.indexed.walking c.args.from c.belongs.ensures c.if-not-belongs.false (omega arith))
+next_from-requires c =
+    let i = c.in_ok-indexed.indexed in
+    record {
+      going = going i.tray.frame.at.frame i.walking;
+      inside = (omega arith, belongs-low i.walking c.args.from c.belongs.ensures c.if-not-belongs.false (omega arith));
+    }
 
 pub returns-then-g-indexed : goal.returns-then-g-indexed
 unfolding next_answer

@@ -8,13 +8,14 @@ use Rattle.tray_check.proofs.run.check_run.Goals as goal
 pub loop-p-init : goal.loop-p-init
 loop-p-init c = record { before = last_none _ 0; same = rw sub-zero }
 
-pub loop-p-preserved-then-key-last : goal.loop-p-preserved-then-key-last
-loop-p-preserved-then-key-last c =
+pub loop-p-preserved-then-odd-eq0 : goal.loop-p-preserved-then-odd-eq0
+loop-p-preserved-then-odd-eq0 c =
     let stands = ap (λ (k : ℕ). 25 * k) c.from-at.ensures in
     let loop = c.loop-p.invariant in
+    let plain = c.odd.ensures c.if-odd-eq0.true in
     record {
       before = last-next _ _ stands c.read-key.ensures;
-      same = sym (run-live _ _ stands c.loop-p-test.true c.if-run-at-eq0.true c.read-key.ensures loop.before c.if-key-last.true) ∙ loop.same;
+      same = sym (run-live _ _ stands c.loop-p-test.true plain.0 c.read-key.ensures loop.before plain.1) ∙ loop.same;
     }
 
 pub returns-then-not-kind_right : goal.returns-then-not-kind_right
