@@ -11,6 +11,7 @@ pub mod Turns
 pub mod Seek
 pub mod Stayed
 pub mod Inside
+pub mod Numbers
 use Rattle.std.specs.Prelude.{◌≡◌, refl, true, false, cond, length, get_or, set, eqb, Result, Ok, Err, Option, Some, None}
 use Rattle.std.proofs.Math.Path.{sym, ap}
 use Rattle.std.proofs.Common.{ap₂, ◌∙◌, eq-eqb, ne_eqb}

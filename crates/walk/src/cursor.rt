@@ -53,6 +53,17 @@ impl Cursor {
     }
 }
 
+// The places of a cursor as numbers: a copy for where a cursor would be copied again for each function.
+pub fn place_numbers(places: [Place; 63]) -> [u16; 63]
+    ensures { result ≡ numbers places }
+{
+    let mut ps = [0u16; 63];
+    for i in 0..63 {
+        ps[i] = places[i].0;
+    }
+    ps
+}
+
 // A record where a walk stays, and the cursor that stands there.
 #[derive(Clone, Copy)]
 pub struct Sighting {
