@@ -32,7 +32,8 @@ pub(crate) fn cursor_in(numbers: &[u16; 66]) -> Cursor
 
 // The places put among the numbers.
 fn put_places(places: &[Place; 63], numbers: &mut [u16; 66])
-    ensures { PutPlaces places.now numbers.new }
+    ensures put { PutPlaces places.now numbers.new }
+    ensures long { length places.now ≡ 63 }
 {
     for i in 0..63 {
         let p = places[i];
@@ -41,8 +42,8 @@ fn put_places(places: &[Place; 63], numbers: &mut [u16; 66])
 }
 
 // The numbers of a cursor.
-pub(crate) fn put_cursor(from: Cursor, numbers: &mut [u16; 66])
-    ensures { numbers.new ≡ cursor_numbers from }
+pub(crate) fn put_cursor(from: &Cursor, numbers: &mut [u16; 66])
+    ensures { numbers.new ≡ cursor_numbers from.now }
 {
     let g = from.segment.0;
     put_places(&from.places, numbers);

@@ -69,16 +69,16 @@ pub fn kanyorith_get(
 }
 
 // An answer of seek or next handed over: 0 and 1 with run, place and cursor, or 0 and 0 with the cursor of the end, or its refusal, which leaves
-// them as they were.
+// them as they were. It is lent, so that its cursor is copied once, to the caller.
 #[inline(always)]
 fn hand_over(
-    s: Result<Stand, Refusal>,
+    s: &Result<Stand, Refusal>,
     run: &mut u8,
     place: &mut u16,
     cursor: &mut [u16; 66],
     figure: &mut u64,
 ) -> u32
-    ensures { Sought s run.old place.old cursor.old result figure.new run.new place.new cursor.new }
+    ensures { Sought s.now run.old place.old cursor.old result figure.new run.new place.new cursor.new }
 {
     match s {
         Ok(Stand::Found(n, p, c)) => {
@@ -93,7 +93,7 @@ fn hand_over(
             put_cursor(c, cursor);
             0
         }
-        Err(r) => refuse(r, figure),
+        Err(r) => refuse(*r, figure),
     }
 }
 
@@ -109,7 +109,7 @@ pub fn kanyorith_seek(
 ) -> u32
     ensures { Seek tray.now index.now key.now cursor.old run.old place.old result figure.new run.new place.new cursor.new }
 {
-    hand_over(seek(tray, index, key), run, place, cursor, figure)
+    hand_over(&seek(tray, index, key), run, place, cursor, figure)
 }
 
 // Next: the same from the cursor on, or 1, 4, 11, 10.
@@ -124,7 +124,7 @@ pub fn kanyorith_next(
     ensures { Next tray.now index.now cursor.old run.old place.old result figure.new run.new place.new cursor.new }
 {
     let from = cursor_in(cursor);
-    hand_over(next(tray, index, from), run, place, cursor, figure)
+    hand_over(&next(tray, index, from), run, place, cursor, figure)
 }
 
 // Page: 0 and 1 where a record is unwritten, with its cursor, or 0 and 0 with the cursor of the end, or 1, 4, 11, 10; and how many records it
@@ -142,7 +142,7 @@ pub fn kanyorith_page(
     let from = cursor_in(cursor);
     let p = page(tray, index, from, out);
     *count = p.count as u64;
-    match p.rest {
+    match &p.rest {
         Ok(Rest::More(c)) => {
             *figure = 1;
             put_cursor(c, cursor);
@@ -153,7 +153,7 @@ pub fn kanyorith_page(
             put_cursor(c, cursor);
             0
         }
-        Err(r) => refuse(r, figure),
+        Err(r) => refuse(*r, figure),
     }
 }
 

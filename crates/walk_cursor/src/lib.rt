@@ -26,16 +26,15 @@ fn none_from(places: &[Place; 63], from: usize) -> bool
     top == 0
 }
 
-// How many of the s selectors from a byte on name each run, marks aside.
-fn tally(x: &[u8], first: usize, s: u8) -> [u8; 64]
+// How many of the s selectors from a byte on name each run, marks aside. They are counted where they are lent, so that no count is copied.
+fn tally(x: &[u8], first: usize, s: u8, seen: &mut [u8; 64])
     requires { first + s ≤ length x.now }
-    ensures { Tallied x.now first s result }
+    ensures { Tallied x.now first s seen.new }
 {
-    let mut seen = [0u8; 64];
+    *seen = [0u8; 64];
     for v in &x[first..first + usize::from(s)] {
         seen[usize::from(*v % 64)] += 1;
     }
-    seen
 }
 
 // Whether the places of the tray's runs are as they must be, for a segment and a tally of its selectors.
@@ -58,7 +57,8 @@ fn stands(index: &Index, g: SegmentNo, s: u8, places: &[Place; 63]) -> bool
     requires { (index.now.runs ≤ 63) × (g.0 < index.now.segments) × (s < index.now.size) }
     ensures { result ≡ same_places (numbers places.now) (places_at index.now.runs index.now.bytes.now g.0 s) }
 {
-    let seen = tally(index.bytes, index.selectors_at(g), s);
+    let mut seen = [0u8; 64];
+    tally(index.bytes, index.selectors_at(g), s, &mut seen);
     places_hold(index, g, &seen, places) && none_from(places, usize::from(index.runs))
 }
 

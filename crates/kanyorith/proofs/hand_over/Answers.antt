@@ -10,14 +10,14 @@ pub returns-in-Ok-Found : goal.returns-in-Ok-Found
 returns-in-Ok-Found c =
     let a = c.in-Ok-Found.is in
     let b = c.in-Ok-Found.field-0-is in
-    let e : ◌≡◌ {A = Result Stand Refusal} c.args.s (Ok (Found c.in-Ok-Found.n c.in-Ok-Found.p c.in-Ok-Found.c)) = search rules in
+    let e : ◌≡◌ {A = Result Stand Refusal} c.args.s.now (Ok (Found c.in-Ok-Found.n c.in-Ok-Found.p c.in-Ok-Found.c)) = search rules in
     sought-found e c.put_cursor.ensures
 
 pub returns-in-Ok-End : goal.returns-in-Ok-End
 returns-in-Ok-End c =
     let a = c.in-Ok-End.is in
     let b = c.in-Ok-End.field-0-is in
-    let e : ◌≡◌ {A = Result Stand Refusal} c.args.s (Ok (End c.in-Ok-End.c)) = search rules in
+    let e : ◌≡◌ {A = Result Stand Refusal} c.args.s.now (Ok (End c.in-Ok-End.c)) = search rules in
     sought-end e c.put_cursor-in-Ok-End.ensures
 
 pub returns-in-Err : goal.returns-in-Err
